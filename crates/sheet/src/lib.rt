@@ -1,0 +1,7 @@
+// The sheet level: words, the board that holds a sheet, and the calls that change it.
+pub mod board;
+pub mod edit;
+pub mod pair;
+mod table;
+pub mod theorems;
+mod word;
