@@ -1,12 +1,11 @@
 -- The rows of refusals stand in the order of their numbers, and the fields of a word do not overlap.
-use mathlib.Core.Path.{_≡_, refl, sym, ap, _∙_}
+use mathlib.Core.Path.{_≡_, refl, sym, ap, subst}
 use mathlib.Core.List.{List, [], _∷_}
 use mathlib.Core.Bool.{Bool, true, false, cond}
 use Prim.Native.Nat.{ℕ, zero, suc, _<_, _≤_, _^_}
 use native.Mathlib.Omega.{arith}
 use lib.Dec.{lit≤}
 use lib.ListN.{length, getD}
-use Rattle.std.specs.Results.{Cases}
 use Rattle.std.specs.declared.result.Result.{Result}
 use Rattle.std.specs.declared.result.Result.the-variants.{Ok, Err}
 use Rattle.std.specs.shelf.Lists.{All, Has}
@@ -17,8 +16,8 @@ use Rattle.fault.specs.Told.{told}
 use Rattle.fault.specs.declared.Fault.{Fault}
 use Rattle.sheet.specs.Calls.{Row, _when_, first-of, judged, refusals}
 use Rattle.sheet.specs.Sheets.{Sheet}
-use Rattle.sheet.specs.Theorems.{Smallest-told, Word-says-pair}
-use Rattle.sheet.specs.Words.{bits, is-pair, kind-of, pair-in, word-of}
+use Rattle.sheet.specs.Laws.{Says-pair, Smallest-told}
+use Rattle.sheet.specs.Words.{is-pair, pair-in, word-of}
 use Rattle.sheet.specs.declared.edit.Edit.{Edit}
 use Rattle.sheet.specs.declared.edit.Edit.the-variants.{Enter, Strike}
 use Rattle.sheet.specs.declared.pair.Direction.{Direction}
@@ -34,7 +33,8 @@ Rising [] = Unit {0}
 Rising (r ∷ rs) = All (λ x. number r ≤ number x) rs × Rising rs
 
 abbrev Told-first : List Row → Result (Unit {0}) Fault → Type 0
-Told-first rs r = Cases r (λ _. All (λ x. x .applies ≡ false) rs) (λ f. Has rs (f when true) × All (λ x. x .applies ≡ true → told f .number ≤ number x) rs)
+Told-first rs (Ok u) = All (λ x. x .applies ≡ false) rs
+Told-first rs (Err f) = Has rs (f when true) × All (λ x. x .applies ≡ true → told f .number ≤ number x) rs
 
 has-later : (r x : Row) (rs : List Row) → Has rs x → Has (r ∷ rs) x
 has-later r x rs h = (suc (h .0), omega (arith, h .1), h .2)
@@ -52,18 +52,23 @@ rising : (s : Sheet) (e : Edit) → Rising (refusals s e)
 rising s (Enter w) = omega arith
 rising s (Strike w) = omega arith
 
-pub smallest-told : Smallest-told
+-- the reply is the judged one
+pub smallest-told : (s : Sheet) (e : Edit) (r : Result (Unit {0}) Fault) → r ≡ judged s e → Smallest-told s e r
 unfolding judged
-smallest-told s e = first-is-least (refusals s e) (rising s e)
+smallest-told s e r h = go r (subst (Told-first (refusals s e)) (sym h) (first-is-least (refusals s e) (rising s e)))
+  where
+    go : (q : Result (Unit {0}) Fault) → Told-first (refusals s e) q → Smallest-told s e q
+    go (Ok u) k = k
+    go (Err f) k = k
 
 -- ---- words
 abbrev pair : Direction → ℕ → ℕ → Pair
 pair d a b = record { direction = d; first = a; second = b }
 
-pub word-says-pair : Word-says-pair
+pub says-pair : (p : Pair) → p .first < 2 ^ 8 → p .second < 2 ^ 8 → Says-pair (word-of p) p
 unfolding is-pair pair-in
-word-says-pair p h k = go (p .direction) (p .first) (p .second) h k
+says-pair p h k = go (p .direction) (p .first) (p .second) h k
   where
-    go : (d : Direction) (a b : ℕ) → a < 2 ^ 8 → b < 2 ^ 8 → (is-pair (word-of (pair d a b)) ≡ true) × (bits 27 16 (word-of (pair d a b)) ≡ 0) × (pair-in (word-of (pair d a b)) ≡ pair d a b)
-    go Beside a b h k = (grind (arith, tells), omega arith, grind (arith, tells))
-    go Above a b h k = (grind (arith, tells), omega arith, grind (arith, tells))
+    go : (d : Direction) (a b : ℕ) → a < 2 ^ 8 → b < 2 ^ 8 → Says-pair (word-of (pair d a b)) (pair d a b)
+    go Beside a b h k = record { pair-word = grind (arith, tells); bits-between = omega arith; fields = grind (arith, tells) }
+    go Above a b h k = record { pair-word = grind (arith, tells); bits-between = omega arith; fields = grind (arith, tells) }

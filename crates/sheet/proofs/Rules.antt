@@ -17,7 +17,6 @@ use Rattle.std.proofs.shelf.Ways.{tells}
 use Rattle.sheet.specs.Calls.{Call, after, done, draw, edit, judged, refusals, run, sheet-after}
 use Rattle.sheet.specs.Sheets.{Sheet, empty, joined, same-pair, with-pair, with-room, without-pair}
 use Rattle.sheet.specs.Sound.{Joins-two, Sound, Within}
-use Rattle.sheet.specs.Theorems.{Always-sound}
 use Rattle.sheet.specs.Words.{is-pair, is-room, pair-fits, pair-in, room-fits, use-in}
 use Rattle.sheet.specs.declared.edit.Edit.{Edit}
 use Rattle.sheet.specs.declared.edit.Edit.the-variants.{Enter, Strike}
@@ -107,7 +106,7 @@ sound-run s (c ∷ cs) h = sound-run (after s c) cs (sound-after s c h)
 none-there : (p : Pair) → None ≡ Some p → ⊥
 none-there p e = let z : _≡_ {A = ℕ} 0 1 = cc in omega arith
 
-pub always-sound : Always-sound
+pub always-sound : (calls : List Call) → Sound (sheet-after calls)
 always-sound cs =
     sound-run empty cs (record { few-rooms = lit≤ tt; few-pairs = lit≤ tt; uses = tt; pairs = tt; apart = λ i j p q e f k. absurd (none-there p e) })
 

@@ -1,8 +1,8 @@
 pub mod Boards
 pub mod Calls
+pub mod Laws
 pub mod Reads
 pub mod Sheets
 pub mod Sound
 pub mod Tables
-pub mod Theorems
 pub mod Words

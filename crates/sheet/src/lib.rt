@@ -3,5 +3,4 @@ pub mod board;
 pub mod edit;
 pub mod pair;
 mod table;
-pub mod theorems;
 mod word;

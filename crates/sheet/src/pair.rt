@@ -1,6 +1,7 @@
 // Two rooms that touch, and which of them lies west or north.
 ghost use mathlib.Core.Path.{_≡_};
 ghost use Rattle.sheet.specs.Sheets.{same-pair, same-rooms};
+ghost use Rattle.sheet.specs.Laws.{Says-pair};
 ghost use Rattle.sheet.specs.Words.{word-of};
 
 #[derive(Clone, Copy, PartialEq, Eq, Debug)]
@@ -36,9 +37,10 @@ impl Pair {
             && self.second == other.second
     }
 
-    // The word that enters this pair, and strikes it.
+    // The word that enters this pair, and strikes it: it says this pair and no other.
     pub fn word(self) -> u32
-        ensures { λ r. ⌜ r ≡ word-of self ⌝ }
+        ensures value { λ r. ⌜ r ≡ word-of self ⌝ }
+        ensures says { λ r. ⌜ Says-pair r self ⌝ }
     {
         let kind: u32 = match self.direction {
             Direction::Beside => 2,

@@ -1,14 +1,14 @@
 // What a board does: entries, strikings, and reading the sheet.
 ghost use mathlib.Core.Path.{_≡_};
-ghost use mathlib.Core.List.{List};
 ghost use Prim.Native.Nat.{_≤_};
 ghost use lib.ListN.{length};
 ghost use Rattle.std.specs.Finite.{nth};
 ghost use Rattle.std.specs.Options.{mapped};
 ghost use Rattle.sheet.specs.Boards.{sheet-of};
-ghost use Rattle.sheet.specs.Calls.{Call, after, edit, judged, sheet-after};
-ghost use Rattle.sheet.specs.Reads.{Pair-read, Read};
+ghost use Rattle.sheet.specs.Calls.{after, edit, judged};
+ghost use Rattle.sheet.specs.Reads.{Read};
 ghost use Rattle.sheet.specs.Sheets.{empty, use-of};
+ghost use Rattle.sheet.specs.Laws.{Smallest-told};
 ghost use Rattle.sheet.specs.Sound.{Sound};
 ghost use Rattle.sheet.specs.Words.{word-of};
 use crate::board::Board;
@@ -88,10 +88,12 @@ impl Board {
         Ok(())
     }
 
-    // One call, whichever it is.
+    // One call, whichever it is. Where several refusals apply, the one with the smallest number is told.
     pub fn apply(&mut self, call: Edit) -> Result<(), Fault>
         ensures sheet { λ _. ⌜ sheet-of (now (self .exit)) ≡ after (sheet-of (now (self .entry))) (edit call) ⌝ }
         ensures reply { λ r. ⌜ r ≡ judged (sheet-of (now (self .entry))) call ⌝ }
+        ensures smallest { λ r. ⌜ Smallest-told (sheet-of (now (self .entry))) call r ⌝ }
+        ensures sound { λ _. ⌜ Sound (sheet-of (now (self .exit))) ⌝ }
     {
         match call {
             Edit::Enter(word) => self.enter(word),
@@ -136,10 +138,4 @@ impl Board {
         let pair = self.table.pair(index)?;
         Some(pair.word())
     }
-
-    // What the invariant says, for callers: the sheet keeps to the rules, and some list of calls made it.
-    pub fn stands(&self)
-        ensures sound { λ _. ⌜ Sound (sheet-of (now (self .entry))) ⌝ }
-        ensures made { λ _. ⌜ ∥ ((calls : List Call) × (sheet-of (now (self .entry)) ≡ sheet-after calls)) ∥₁ ⌝ }
-    {}
 }
