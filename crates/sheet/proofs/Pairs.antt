@@ -21,7 +21,7 @@ use Rattle.sheet.specs.declared.pair.Pair.{Pair}
 abbrev pub Apart : List Pair → Type 0
 Apart ps = (i j : ℕ) (p q : Pair) → nth ps i ≡ Some p → nth ps j ≡ Some q → same-rooms p q ≡ true → i ≡ j
 
-none-some : {X : Type 0} {P : Type 0} (x : X) → None ≡ Some x → P
+pub none-some : {X : Type 0} {P : Type 0} (x : X) → None ≡ Some x → P
 none-some {X} {P} x e = absurd (let z : _≡_ {A = ℕ} 0 1 = cc in omega arith)
 
 same-some : {X : Type 0} (x y : X) → Some x ≡ Some y → x ≡ y

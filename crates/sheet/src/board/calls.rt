@@ -116,12 +116,26 @@ impl Board {
         self.table.use_of(room)
     }
 
+    // The uses of the held rooms, room 1 first.
+    pub fn uses(&self) -> &[u8]
+        ensures { λ r. ⌜ now r ≡ sheet-of (now (self .entry)) .uses ⌝ }
+    {
+        &self.table.uses[0..self.table.rooms]
+    }
+
     // How many pairs are held.
     pub fn pairs(&self) -> usize
         ensures count { λ r. ⌜ r ≡ length (sheet-of (now (self .entry)) .pairs) ⌝ }
         ensures short { λ r. ⌜ r ≤ 600 ⌝ }
     {
         self.table.marks
+    }
+
+    // The held pairs, in their order.
+    pub fn pair_list(&self) -> &[Pair]
+        ensures { λ r. ⌜ now r ≡ sheet-of (now (self .entry)) .pairs ⌝ }
+    {
+        &self.table.pairs[0..self.table.marks]
     }
 
     // The pair at a place, counted from 0.

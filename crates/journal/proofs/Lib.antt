@@ -1,0 +1,10 @@
+pub mod Counting
+pub mod Cutting
+pub mod Digits
+pub mod Feeding
+pub mod Finishing
+pub mod Printing
+pub mod Replied
+pub mod Running
+pub mod Spoken
+pub mod Words
