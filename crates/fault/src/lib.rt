@@ -111,3 +111,6 @@ impl Fault {
         }
     }
 }
+
+#[cfg(test)]
+mod tests;

@@ -4,4 +4,6 @@ pub mod line;
 pub mod run;
 pub mod session;
 mod tally;
+#[cfg(test)]
+mod tests;
 pub mod text;

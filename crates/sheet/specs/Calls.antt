@@ -27,16 +27,16 @@ f when b = record { refusal = f; applies = b }
 abbrev pub refusals : Sheet → Edit → List Row
 refusals s (Enter w) =
     (WrongKind when not (is-room w || is-pair w))
-    ∷ ((OutOfRange when not (cond (is-room w) (room-fits w) (pair-fits (length (s .uses)) w)))
-    ∷ ((Full when cond (is-room w) (leb 200 (length (s .uses))) (leb 600 (length (s .pairs))))
-    ∷ ((SameRoom when (is-pair w && eqb (pair-in w .first) (pair-in w .second)))
-    ∷ ((AlreadyJoined when (is-pair w && joined s (pair-in w)))
-    ∷ []))))
+    ∷ (OutOfRange when not (cond (is-room w) (room-fits w) (pair-fits (length (s .uses)) w)))
+    ∷ (Full when cond (is-room w) (leb 200 (length (s .uses))) (leb 600 (length (s .pairs))))
+    ∷ (SameRoom when (is-pair w && eqb (pair-in w .first) (pair-in w .second)))
+    ∷ (AlreadyJoined when (is-pair w && joined s (pair-in w)))
+    ∷ []
 refusals s (Strike w) =
     (WrongKind when not (is-pair w))
-    ∷ ((OutOfRange when not (pair-fits (length (s .uses)) w))
-    ∷ ((NotHeld when not (holds s (pair-in w)))
-    ∷ []))
+    ∷ (OutOfRange when not (pair-fits (length (s .uses)) w))
+    ∷ (NotHeld when not (holds s (pair-in w)))
+    ∷ []
 
 -- the first that applies is told; where none does, the call is accepted
 abbrev pub first-of : List Row → Result (Unit {0}) Fault

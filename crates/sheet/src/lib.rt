@@ -3,4 +3,6 @@ pub mod board;
 pub mod edit;
 pub mod pair;
 mod table;
+#[cfg(test)]
+mod tests;
 mod word;

@@ -1,4 +1,5 @@
 -- Each call adds its judged reply and makes the sheet after it.
+use borrow.Author.Needs.{needs}
 use mathlib.Core.List.{List, map}
 use mathlib.Core.Path.{_≡_, ap, subst, _∙_}
 use lib.ListN.{take}
@@ -7,6 +8,7 @@ use Rattle.std.proofs.shelf.Lists.{take-all}
 use Rattle.sheet.specs.Boards.{sheet-of}
 use Rattle.sheet.specs.Calls.{edit, sheet-after}
 use Rattle.sheet.specs.declared.edit.Edit.{Edit}
+use Rattle.sheet.specs.declared.edit.Edit.the-variants.{Enter}
 use Rattle.sheet.proofs.Keeping.{sound}
 use Rattle.journal.specs.Runs.{Judged-in-order}
 use Rattle.journal.proofs.Running.{judged-none, judged-turn, sheet-turn}
@@ -22,8 +24,8 @@ loop-call-again c =
     let s = sheet-of (c .loop-call .board) in
     let v = c .loop-call .inv in
     let l = c .loop-call-test .taken in (
-      sheet-turn es i _ l s (sheet-of (c .apply .last .self)) (v .0) (c .apply .ensures .sheet),
-      judged-turn es i _ l s (vec-items (c .loop-call .replies)) (vec-items (c .push .last .self)) (c .apply .result) (v .0) (v .1) (c .apply .ensures .reply) (c .in-Continue-push .ensures tt .items),
+      sheet-turn es i (Enter 0) l s (sheet-of (c .apply .last .self)) (v .0) (search needs),
+      judged-turn es i (Enter 0) l s (vec-items (c .loop-call .replies)) (vec-items (c .push .last .self)) (c .apply .result) (v .0) (v .1) (search needs) (search needs),
     )
 
 pub returns : need.returns

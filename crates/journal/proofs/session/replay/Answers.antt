@@ -1,10 +1,8 @@
 -- A fresh session was fed nothing, then the whole text, and then finished.
-use mathlib.Core.List.{List, [], _++_}
-use mathlib.Core.Path.{_≡_, sym, ap, _∙_}
-use Prim.Native.Nat.{ℕ}
+use borrow.Author.Needs.{needs}
+use mathlib.Core.List.{[]}
 use Rattle.std.specs.Of.String.{string-bytes}
 use Rattle.std.proofs.shelf.Results.{made-from-err}
-use Rattle.journal.specs.Sessions.{Adds}
 use Rattle.journal.specs.Transcripts.{transcript}
 use Rattle.journal.proofs.Cutting.{cut-law}
 use Rattle.journal.proofs.Feeding.{adds-all, adds-then}
@@ -26,8 +24,8 @@ pub returns : need.returns
 returns c =
     let t = c .args .text .now in
     let fed = c .in-Continue-feed .ensures tt [] (c .new-session .ensures) in
-    let done = c .in-Continue-finish .ensures tt t (fed .0) in
+    let done = c .in-Continue-finish .ensures tt t (search (needs, fed .0)) in
     record {
-      transcript = adds-all (transcript t) (string-bytes (c .new-out .result)) (string-bytes (c .finish .last .out)) (c .new-out .ensures .bytes) (adds-then (fed .1) done);
+      transcript = adds-all (transcript t) (string-bytes (c .new-out .result)) (string-bytes (c .finish .last .out)) (c .new-out .ensures .bytes) (adds-then {q = string-bytes (c .finish .last .out)} (fed .1) done);
       lines = cut-law t;
     }

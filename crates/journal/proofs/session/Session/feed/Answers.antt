@@ -1,8 +1,10 @@
 -- A line feed ends the line and any other byte goes to the line buffer, so each turn feeds one byte more.
+use borrow.Author.Needs.{needs}
 use mathlib.Core.List.{[], _∷_}
-use mathlib.Core.Path.{refl, sym, subst}
+use mathlib.Core.Path.{_≡_, refl, sym, subst}
 use native.Mathlib.Omega.{arith}
 use Prim.Native.Nat.{ℕ}
+use lib.ListN.{getD}
 use Rattle.std.specs.Of.String.{string-bytes}
 use Rattle.journal.specs.Sessions.{Fed}
 use Rattle.journal.proofs.Feeding.{fed-all, fed-more, fed-none, fed-one}
@@ -27,7 +29,8 @@ loop-byte-again c =
           (subst (λ (b : ℕ). Fed k (w .end-line .last .self) (b ∷ []) p (string-bytes (w .end-line .last .out))) (sym (w .if-byte-eq10 .taken)) (w .in-Continue-end-line .ensures tt)))
       | else-byte-eq10 w ↦
           rw (w .self-is, w .out-is)
-          (fed-more j k _ bytes i o p p (omega arith) (c .loop-byte .inv) (fed-one k _ _ p (w .if-byte-eq10 .left) refl refl (w .push .ensures)))
+          (fed-more j k (record { board = k .board; tally = k .tally; line = w .push .last .self }) bytes i o p p (omega arith) (c .loop-byte .inv)
+          (fed-one k _ (getD bytes i 0) p (w .if-byte-eq10 .left) refl refl (search needs)))
     ]
 
 pub returns : need.returns

@@ -1,7 +1,7 @@
 -- The last line is ended if there is one, and then the sheet and the summary are printed.
+use borrow.Author.Needs.{needs}
 use mathlib.Core.List.{List, []}
-use mathlib.Core.Path.{_≡_, refl, sym, ap, _∙_}
-use native.Mathlib.Omega.{arith}
+use mathlib.Core.Path.{_≡_, sym, ap, _∙_}
 use Prim.Native.Nat.{ℕ}
 use lib.ListN.{length}
 use Rattle.std.specs.Of.String.{string-bytes}
@@ -10,7 +10,6 @@ use Rattle.std.proofs.shelf.Results.{made-weaker}
 use Rattle.std.proofs.shelf.Tests.{eqb-false, eqb-true}
 use Rattle.journal.specs.Buffers.{line-in}
 use Rattle.journal.specs.Sessions.{After}
-use Rattle.journal.specs.declared.text.Summary.{Summary}
 use Rattle.journal.proofs.Finishing.{Ready, finished, ready-fed, ready-now}
 use Rattle.journal.proofs.session.Session.finish.Needs as need
 use Rattle.journal.proofs.session.Session.finish.Needs.{then-not-is-empty·in-Continue-end-line, else-not-is-empty}
@@ -32,8 +31,7 @@ returns c =
           let none : line-in (j .line) ≡ [] = sym line ∙ nil-from-length text (eqb-true (length text) 0 (sym (c .is-empty .ensures) ∙ w .if-not-is-empty .left)) in
           rw (w .self-is, w .out-is) (ready-now j t out h none)
     ] in
-    let z : Summary = record { calls = k .tally .calls; accepted = k .tally .accepted; refused = k .tally .refused; unreadable = k .tally .unreadable; rooms = c .rooms .result; pairs = c .pairs .result } in
     made-weaker (c .push-line .result) _ _
-    (λ _ last t h. finished k z o (string-bytes (c .push-rooms .last .out)) (string-bytes (c .push-pairs .last .out)) (string-bytes (c .push-line .last .out))
-    (c .in-Continue-push-rooms .ensures tt) (c .in-Continue-push-pairs .ensures tt) last refl refl refl refl (c .rooms .ensures .count) (c .pairs .ensures .count) t out (ready t h))
+    (λ _ last t h. finished k _ o (string-bytes (c .push-rooms .last .out)) (string-bytes (c .push-pairs .last .out)) (string-bytes (c .push-line .last .out))
+    (c .in-Continue-push-rooms .ensures tt) (c .in-Continue-push-pairs .ensures tt) last (search needs) (search needs) (search needs) (search needs) (search needs) (search needs) t out (ready t h))
     (c .push-line .ensures)

@@ -1,4 +1,5 @@
 -- Each call keeps what it promises, and its reply is the first row that applies, whose number is the smallest.
+use borrow.Author.Needs.{needs}
 use mathlib.Core.Path.{sym, ap, _∙_}
 use Rattle.sheet.specs.Boards.{sheet-of}
 use Rattle.sheet.specs.Calls.{after, edit, judged}
@@ -13,7 +14,7 @@ returns-in-Enter c =
     let told = c .enter .ensures .reply ∙ ap (judged s) (sym (c .in-Enter .is)) in
     record {
       sheet = c .enter .ensures .sheet ∙ ap (λ (e : Edit). after s (edit e)) (sym (c .in-Enter .is));
-      reply = told;
+      reply = search needs;
       smallest = smallest-told s (c .args .call) (c .enter .result) told;
       sound = sound (c .enter .last .self);
     }
@@ -24,7 +25,7 @@ returns-in-Strike c =
     let told = c .strike .ensures .reply ∙ ap (judged s) (sym (c .in-Strike .is)) in
     record {
       sheet = c .strike .ensures .sheet ∙ ap (λ (e : Edit). after s (edit e)) (sym (c .in-Strike .is));
-      reply = told;
+      reply = search needs;
       smallest = smallest-told s (c .args .call) (c .strike .result) told;
       sound = sound (c .strike .last .self);
     }

@@ -1,4 +1,5 @@
 -- The pair is at the place found, and since no two pairs join the same rooms, taking it out leaves just the others.
+use borrow.Author.Needs.{needs}
 use mathlib.Core.Path.{sym, _∙_}
 use mathlib.Core.Bool.{true}
 use Rattle.std.proofs.shelf.Results.{err-from-errBy}
@@ -36,9 +37,9 @@ ghost-self c =
     let h = touch-read b w p (c .in-Continue-pair .ensures tt) in
     let at = c .in-Some .ensures tt in
     let t = c .remove .last .self in
-    let e = struck b t p (c .in-Some .at) at (c .remove .ensures .sheet) in
+    let e = struck b t p (c .in-Some .at) at (search needs) in
     let k = accept (sheet-of b) (Strike w) _ (strike-taken (sheet-of b) w p h (placed-held b p (c .in-Some .at) at)) (e ∙ strike-done (sheet-of b) w p h) in
-    let n = struck-counts b t p (c .in-Some .at) at (c .remove .ensures .sheet) (c .remove .ensures .rooms) (c .remove .ensures .marks) in
+    let n = struck-counts b t p (c .in-Some .at) at (search needs) (c .remove .ensures .rooms) (c .remove .ensures .marks) in
     kept b t (edit (Strike w)) (k .0) (n .0) (n .1)
 
 pub returns : need.returns
@@ -48,6 +49,6 @@ returns c =
     let p = c .in-Continue-pair .pair in
     let h = touch-read b w p (c .in-Continue-pair .ensures tt) in
     let at = c .in-Some .ensures tt in
-    let e = struck b (c .remove .last .self) p (c .in-Some .at) at (c .remove .ensures .sheet) in
+    let e = struck b (c .remove .last .self) p (c .in-Some .at) at (search needs) in
     let k = accept (sheet-of b) (Strike w) _ (strike-taken (sheet-of b) w p h (placed-held b p (c .in-Some .at) at)) (e ∙ strike-done (sheet-of b) w p h) in
     record { sheet = k .0; reply = k .1 }
