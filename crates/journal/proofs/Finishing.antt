@@ -1,7 +1,7 @@
 -- At the end a rest that is not empty is one line more, and what follows the replies is printed from the sheet and the counts.
 use mathlib.Core.Path.{_≡_, refl, sym, ap, ap₂, _∙_, subst}
 use mathlib.Core.List.{List, [], _∷_, _++_}
-use Prim.Native.Nat.{ℕ, zero, suc}
+use Prim.Native.Nat.{ℕ}
 use native.Mathlib.Omega.{arith}
 use lib.ListN.{length, take}
 use Rattle.std.proofs.shelf.Lists.{append-assoc, append-nil, length-take, nil-from-length}
@@ -10,7 +10,7 @@ use Rattle.sheet.specs.Calls.{sheet-after}
 use Rattle.sheet.specs.Sheets.{Sheet}
 use Rattle.journal.specs.Buffers.{line-in}
 use Rattle.journal.specs.Cuts.{Cut, cut, last-line, lines-of, with-feed}
-use Rattle.journal.specs.Sessions.{Adds, After, Fed, Finished, Holds}
+use Rattle.journal.specs.Sessions.{Adds, After, Fed}
 use Rattle.journal.specs.Tallies.{Tallied}
 use Rattle.journal.specs.Texts.{summary-text}
 use Rattle.journal.specs.Transcripts.{answered-so-far, calls-in, closing, pair-lines, replies, reply-lines, room-lines, summary-of, transcript}

@@ -1,11 +1,10 @@
 -- One line more adds its call to the calls and its reply to the replies, judged on the sheet so far.
 use mathlib.Core.Path.{_≡_, refl, sym, ap, ap₂, _∙_}
 use mathlib.Core.List.{List, [], _∷_, _++_, map}
-use Prim.Native.Nat.{ℕ, _+_, _<_, _≤_}
+use Prim.Native.Nat.{ℕ, _<_}
 use native.Mathlib.Omega.{arith}
 use lib.ListN.{length, getD, take}
 use Rattle.std.specs.Iters.{counting}
-use Rattle.std.specs.shelf.Lists.{joined}
 use Rattle.std.proofs.shelf.Counted.{fill-by-all, getD-map-counting, length-map-counting, map-counting-more}
 use Rattle.std.proofs.shelf.Lists.{getD-append-left, getD-push, joined-more, length-push, take-append-le, take-at}
 use Rattle.sheet.specs.Calls.{Call, after, run, sheet-after}

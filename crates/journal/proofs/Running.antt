@@ -2,15 +2,15 @@
 use mathlib.Core.Path.{_≡_, refl, sym, ap, ap₂, _∙_, subst}
 use mathlib.Core.List.{List, [], _∷_, _++_, map}
 use mathlib.Core.Logic.{⊎-elim}
-use Prim.Native.Nat.{ℕ, zero, suc, _+_, _<_, _≤_}
+use Prim.Native.Nat.{ℕ, zero, suc, _+_, _<_}
 use native.Mathlib.Omega.{arith}
 use lib.ListN.{length, getD, take}
 use Rattle.std.specs.Finite.{nth}
-use Rattle.std.specs.declared.option.Option.the-variants.{Some, None}
+use Rattle.std.specs.declared.option.Option.the-variants.{Some}
 use Rattle.std.specs.declared.result.Result.{Result}
-use Rattle.std.proofs.shelf.Lists.{length-push, map-push, take-all, take-append-le, take-at, take-more}
+use Rattle.std.proofs.shelf.Lists.{length-push, map-push, take-append-le, take-at, take-more}
 use Rattle.fault.specs.declared.Fault.{Fault}
-use Rattle.sheet.specs.Calls.{Call, after, edit, judged, sheet-after}
+use Rattle.sheet.specs.Calls.{after, edit, judged, sheet-after}
 use Rattle.sheet.specs.Sheets.{Sheet, empty}
 use Rattle.sheet.specs.declared.edit.Edit.{Edit}
 use Rattle.sheet.proofs.Pairs.{none-some, nth-push}

@@ -5,7 +5,6 @@ use mathlib.Core.Path.{_≡_}
 use Prim.Native.Nat.{ℕ, _-_, _^_, min}
 use lib.ListN.{length}
 use Rattle.std.specs.shelf.Lists.{kept-by}
-use Rattle.fault.specs.declared.Fault.{Fault}
 use Rattle.journal.specs.declared.tally.Tally.{Tally}
 use Rattle.journal.specs.declared.text.Reply.{Reply}
 use Rattle.journal.specs.declared.text.Reply.the-variants.{Accepted, Refused, Unreadable}

@@ -1,6 +1,6 @@
 -- The text of each line that a journal prints.
 use mathlib.Core.List.{List, [], _∷_, _++_}
-use Prim.Native.Nat.{ℕ, _+_, _/_, _%_, _^_}
+use Prim.Native.Nat.{ℕ, _/_, _%_, _^_}
 use lib.Chars.{codes}
 use Rattle.std.specs.Written.{decimal, glyph}
 use mathlib.Core.Bool.{false}

@@ -6,3 +6,4 @@ pub mod Props
 pub mod Replies
 pub mod Rules
 pub mod Shifts
+pub mod Ways

@@ -3,18 +3,17 @@ use mathlib.Core.Path.{_≡_, refl, sym, ap, _∙_}
 use mathlib.Core.List.{List, [], _∷_, _++_}
 use mathlib.Core.Bool.{Bool, true, false, not, cond}
 use mathlib.Core.Logic.{_⊎_, inl, inr, ⊎-elim}
-use Prim.Native.Nat.{ℕ, zero, suc, _+_, _<_, _≤_}
+use Prim.Native.Nat.{ℕ, zero, suc, _<_, _≤_}
 use native.Mathlib.Omega.{arith}
 use lib.Dec.{lit≤}
 use lib.ListN.{length, getD}
 use Rattle.std.specs.Finite.{nth}
-use Rattle.std.specs.declared.option.Option.{Option}
 use Rattle.std.specs.declared.option.Option.the-variants.{Some, None}
 use Rattle.std.specs.shelf.Lists.{kept-by, removed}
 use Rattle.std.proofs.shelf.Maps.{nth-getD}
-use Rattle.std.proofs.shelf.Tests.{both-ways, cases-bool, cond-both, false≢true, not-from-false, not-from-true, or-parts}
+use Rattle.std.proofs.shelf.Tests.{both-ways, cases-bool, cond-both, not-from-false, or-parts}
 use Rattle.std.proofs.shelf.Ways.{tells}
-use Rattle.sheet.specs.Sheets.{any, same-direction, same-pair, same-rooms}
+use Rattle.sheet.specs.Sheets.{any, same-pair, same-rooms}
 use Rattle.sheet.specs.declared.pair.Pair.{Pair}
 
 -- no two join the same two rooms

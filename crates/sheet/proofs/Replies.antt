@@ -1,11 +1,11 @@
 -- The reply to a call follows row by row from what is known of its word and its sheet.
-use mathlib.Core.Path.{_≡_, refl, sym, ap, _∙_}
+use mathlib.Core.Path.{_≡_, refl, sym, ap}
 use mathlib.Core.List.{List, [], _∷_}
 use mathlib.Core.Bool.{Bool, true, false, cond}
-use mathlib.Core.Logic.{_⊎_, inl, inr}
+use mathlib.Core.Logic.{inl, inr}
 use Prim.Native.Nat.{ℕ, _<_, _≤_}
 use native.Mathlib.Omega.{arith}
-use lib.Dec.{eqb, leb}
+use lib.Dec.{eqb}
 use lib.ListN.{length}
 use Rattle.std.specs.Results.{isOk}
 use Rattle.std.specs.declared.result.Result.{Result}
@@ -14,11 +14,11 @@ use Rattle.std.specs.shelf.Lists.{All}
 use Rattle.std.proofs.shelf.Tests.{false≢true, le-leb, lt-leb, eq-eqb, ne-eqb}
 use Rattle.std.proofs.shelf.Ways.{tells}
 use Rattle.fault.specs.declared.Fault.{Fault}
-use Rattle.fault.specs.declared.Fault.the-variants.{WrongKind, OutOfRange, Full, SameRoom, AlreadyJoined, NotHeld}
+use Rattle.fault.specs.declared.Fault.the-variants.{Full, SameRoom, AlreadyJoined, NotHeld}
 use Rattle.sheet.specs.Calls.{Row, after, done, edit, first-of, judged, refusals}
 use Rattle.sheet.specs.Reads.{Pair-read, Pair-unread, Read, Unread}
 use Rattle.sheet.specs.Sheets.{Sheet, holds, joined, with-pair, with-room, without-pair}
-use Rattle.sheet.specs.Words.{is-pair, is-room, pair-fits, pair-in, room-fits, use-in}
+use Rattle.sheet.specs.Words.{is-pair, is-room, pair-in}
 use Rattle.sheet.specs.declared.edit.Edit.{Edit}
 use Rattle.sheet.specs.declared.edit.Edit.the-variants.{Enter, Strike}
 use Rattle.sheet.specs.declared.pair.Pair.{Pair}

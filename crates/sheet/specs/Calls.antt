@@ -1,7 +1,6 @@
 -- The calls on a sheet: which refusal each meets, and the sheet that it leaves.
 use mathlib.Core.Bool.{Bool, cond, not, _&&_, _||_}
 use mathlib.Core.List.{List, [], _∷_}
-use Prim.Native.Nat.{ℕ}
 use lib.Dec.{eqb, leb}
 use lib.ListN.{length}
 use Rattle.std.specs.Results.{isOk}

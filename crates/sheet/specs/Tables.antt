@@ -1,10 +1,10 @@
 -- The sheet that a table holds, and where a pair stands in it.
-use mathlib.Core.Bool.{true, false}
+use mathlib.Core.Bool.{true}
 use mathlib.Core.List.{List}
 use mathlib.Core.Path.{_≡_}
 use Prim.Native.Nat.{ℕ, _<_}
 use lib.ListN.{length, take, getD}
-use Rattle.sheet.specs.Sheets.{Sheet, any, same-pair}
+use Rattle.sheet.specs.Sheets.{Sheet, same-pair}
 use Rattle.sheet.specs.declared.pair.Pair.{Pair}
 use Rattle.sheet.specs.declared.table.Table.{Table}
 

@@ -1,8 +1,7 @@
 // The arrays of a board: the uses of its rooms and its pairs, each with how many there are.
 ghost use mathlib.Core.Path.{_≡_};
-ghost use mathlib.Core.Bool.{true, false};
-ghost use Prim.Native.Nat.{ℕ, _+_, _<_, _≤_};
-ghost use lib.ListN.{length, take};
+ghost use mathlib.Core.Bool.{false};
+ghost use Prim.Native.Nat.{_+_, _<_, _≤_};
 ghost use Rattle.std.specs.Finite.{nth};
 ghost use Rattle.std.specs.Options.{Cases as BySome};
 ghost use Rattle.std.specs.declared.option.Option.the-variants.{Some};

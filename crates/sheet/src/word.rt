@@ -1,6 +1,6 @@
 // Reading a word: its kind, then the ranges of its fields.
 ghost use mathlib.Core.Path.{_≡_};
-ghost use Prim.Native.Nat.{ℕ, _%_, _^_};
+ghost use Prim.Native.Nat.{_%_};
 ghost use Rattle.std.specs.Results.{Cases};
 ghost use Rattle.sheet.specs.Sheets.{held};
 ghost use Rattle.sheet.specs.Reads.{Pair-read, Pair-unread, Read, Unread};

@@ -1,8 +1,7 @@
 -- Each call adds its judged reply and makes the sheet after it.
 use borrow.Author.Needs.{needs}
 use mathlib.Core.List.{List, map}
-use mathlib.Core.Path.{_≡_, ap, subst, _∙_}
-use lib.ListN.{take}
+use mathlib.Core.Path.{ap, subst, _∙_}
 use Rattle.std.specs.Of.Vec.{vec-items}
 use Rattle.std.proofs.shelf.Lists.{take-all}
 use Rattle.sheet.specs.Boards.{sheet-of}

@@ -2,7 +2,6 @@
 use mathlib.Core.Path.{sym, _∙_}
 use mathlib.Core.List.{[], _∷_, _++_}
 use native.Mathlib.Omega.{arith}
-use lib.ListN.{take}
 use Rattle.std.proofs.shelf.Lists.{length-push, length-take, take-all, take-append-le, take-more-set}
 use Rattle.journal.specs.Buffers.{line-in}
 use Rattle.journal.proofs.buffer.LineBuffer.push.Needs as need

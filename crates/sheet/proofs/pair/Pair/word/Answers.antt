@@ -2,7 +2,6 @@
 use borrow.Author.Needs.{needs}
 use mathlib.Core.Path.{_≡_, sym, subst}
 use Prim.Native.Nat.{ℕ, _+_, _*_, _%_, _^_, _<_}
-use native.Mathlib.Omega.{arith}
 use Rattle.sheet.specs.Laws.{Says-pair}
 use Rattle.sheet.specs.Words.{word-of}
 use Rattle.sheet.proofs.Laws.{says-pair}
