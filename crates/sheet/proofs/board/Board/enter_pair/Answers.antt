@@ -1,5 +1,6 @@
 -- The tests are made in the order of the refusals' numbers; where all fail no row applies, and the table has one pair more.
 use mathlib.Core.Path.{sym}
+use native.Mathlib.Omega.{arith}
 use Rattle.sheet.specs.Calls.{edit}
 use Rattle.sheet.specs.declared.edit.Edit.the-variants.{Enter}
 use Rattle.sheet.proofs.Keeping.{kept, pair-counts}
@@ -8,7 +9,7 @@ use Rattle.sheet.proofs.board.Board.enter_pair.Needs as need
 
 pub returns-then-self-eq-PAIRS : need.returns-then-self-eq-PAIRS
 returns-then-self-eq-PAIRS c =
-    let k = pair-full (c .args .self .now) (c .args .word) (c .args .pair) (c .pre) (c .if-self-eq-PAIRS .taken) in
+    let k = pair-full (c .args .self .now) (c .args .word) (c .args .pair) (c .pre) (omega arith) in
     record { sheet = k .0; reply = k .1 }
 
 pub returns-then-pair : need.returns-then-pair

@@ -1,4 +1,5 @@
 -- With fewer than 200 rooms no row applies to a room word in range, and the table has one room more.
+use native.Mathlib.Omega.{arith}
 use Rattle.sheet.specs.Calls.{edit}
 use Rattle.sheet.specs.declared.edit.Edit.the-variants.{Enter}
 use Rattle.sheet.proofs.Keeping.{kept, room-counts}
@@ -7,7 +8,7 @@ use Rattle.sheet.proofs.board.Board.enter_room.Needs as need
 
 pub returns-then-self-eq-ROOMS : need.returns-then-self-eq-ROOMS
 returns-then-self-eq-ROOMS c =
-    let k = room-full (c .args .self .now) (c .args .word) (c .args .purpose) (c .pre) (c .if-self-eq-ROOMS .taken) in
+    let k = room-full (c .args .self .now) (c .args .word) (c .args .purpose) (c .pre) (omega arith) in
     record { sheet = k .0; reply = k .1 }
 
 pub ghost-self : need.ghost-self
