@@ -1,4 +1,5 @@
 // The arrays of a board: the uses of its rooms and its pairs, each with how many there are.
+// No other crate sees the table. What its methods require is what the board's invariant says.
 ghost use mathlib.Core.Path.{_≡_};
 ghost use mathlib.Core.Bool.{false};
 ghost use Prim.Native.Nat.{_+_, _<_, _≤_};
