@@ -7,18 +7,15 @@ use lib.ListN.{length, getD, take}
 use Rattle.std.specs.Iters.{counting}
 use Rattle.std.proofs.shelf.Counted.{fill-by-all, getD-map-counting, length-map-counting, map-counting-more}
 use Rattle.std.proofs.shelf.Lists.{getD-append-left, getD-push, joined-more, length-push, take-append-le, take-at}
-use Rattle.sheet.specs.Calls.{Call, after, run, sheet-after}
-use Rattle.sheet.specs.Sheets.{Sheet, empty}
+use Rattle.sheet.specs.Calls.{run, sheet-after}
+use Rattle.sheet.specs.Sheets.{empty}
+use Rattle.sheet.proofs.Rules.{run-append}
 use Rattle.journal.specs.Cuts.{with-feed}
 use Rattle.journal.specs.Lines.{said}
 use Rattle.journal.specs.Texts.{reply-text}
 use Rattle.journal.specs.Transcripts.{answered, called, calls-in, replies, reply-lines}
 use Rattle.journal.specs.declared.text.Reply.{Reply}
 use Rattle.journal.specs.declared.text.Reply.the-variants.{Unreadable}
-
-pub run-append : (s : Sheet) (cs ds : List Call) → run s (cs ++ ds) ≡ run (run s cs) ds
-run-append s [] ds = refl
-run-append s (c ∷ cs) ds = run-append (after s c) cs ds
 
 pub sheet-push : (ls : List (List ℕ)) (l : List ℕ) → sheet-after (calls-in (ls ++ l ∷ [])) ≡ run (sheet-after (calls-in ls)) (called (said l))
 sheet-push ls l = ap sheet-after (sym (joined-more (λ (x : List ℕ). called (said x)) [] ls l)) ∙ run-append empty (calls-in ls) (called (said l))

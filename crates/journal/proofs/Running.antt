@@ -14,7 +14,7 @@ use Rattle.sheet.specs.Calls.{after, edit, judged, sheet-after}
 use Rattle.sheet.specs.Sheets.{Sheet, empty}
 use Rattle.sheet.specs.declared.edit.Edit.{Edit}
 use Rattle.sheet.proofs.Pairs.{none-some, nth-push}
-use Rattle.sheet.proofs.Rules.{run-push}
+use Rattle.sheet.proofs.Rules.{run-append}
 use Rattle.journal.specs.Runs.{Judged-in-order}
 
 abbrev Outcome : Type 0
@@ -42,7 +42,7 @@ pub judged-none : (rs : List Outcome) → rs ≡ [] → Judged-in-order [] rs
 judged-none rs e = record { as-many = ap length e; each = λ k x h. none-some x h }
 
 pub sheet-more : (s : Sheet) (es : List Edit) (e : Edit) → s ≡ after (made-by es) (edit e) → s ≡ made-by (es ++ e ∷ [])
-sheet-more s es e h = h ∙ sym (run-push empty (map edit es) (edit e)) ∙ ap sheet-after (sym (map-push edit es e))
+sheet-more s es e h = h ∙ sym (run-append empty (map edit es) (edit e ∷ [])) ∙ ap sheet-after (sym (map-push edit es e))
 
 judged-push : (es : List Edit) (rs : List Outcome) (e : Edit) → Judged-in-order es rs → Judged-in-order (es ++ e ∷ []) (rs ++ judged (made-by es) e ∷ [])
 judged-push es rs e h = record {

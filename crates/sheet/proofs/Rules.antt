@@ -8,7 +8,6 @@ use native.Mathlib.Omega.{arith}
 use lib.Dec.{lit≤}
 use lib.ListN.{length}
 use Rattle.std.specs.Results.{isOk}
-use Rattle.std.specs.declared.option.Option.the-variants.{None, Some}
 use Rattle.std.specs.shelf.Lists.{All}
 use Rattle.std.proofs.shelf.Elements.{all-push, all-weaker, all-kept-by}
 use Rattle.std.proofs.shelf.Lists.{length-push}
@@ -21,7 +20,7 @@ use Rattle.sheet.specs.Words.{is-pair, is-room, pair-fits, pair-in, room-fits,
 use Rattle.sheet.specs.declared.edit.Edit.{Edit}
 use Rattle.sheet.specs.declared.edit.Edit.the-variants.{Enter, Strike}
 use Rattle.sheet.specs.declared.pair.Pair.{Pair}
-use Rattle.sheet.proofs.Pairs.{apart-kept, apart-push, kept-length}
+use Rattle.sheet.proofs.Pairs.{apart-kept, apart-push, kept-length, none-some}
 use Rattle.sheet.proofs.Replies.{none-applies}
 
 use-within : (w : ℕ) → room-fits w ≡ true → Within 1 255 (use-in w)
@@ -103,20 +102,17 @@ sound-run : (s : Sheet) (cs : List Call) → Sound s → Sound (run s cs)
 sound-run s [] h = h
 sound-run s (c ∷ cs) h = sound-run (after s c) cs (sound-after s c h)
 
-none-there : (p : Pair) → None ≡ Some p → ⊥
-none-there p e = let z : _≡_ {A = ℕ} 0 1 = cc in omega arith
-
 pub always-sound : (calls : List Call) → Sound (sheet-after calls)
 always-sound cs =
-    sound-run empty cs (record { few-rooms = lit≤ tt; few-pairs = lit≤ tt; uses = tt; pairs = tt; apart = λ i j p q e f k. absurd (none-there p e) })
+    sound-run empty cs (record { few-rooms = lit≤ tt; few-pairs = lit≤ tt; uses = tt; pairs = tt; apart = λ i j p q e f k. none-some p e })
 
 -- ---- a list of calls made it
 abbrev pub Made : Sheet → Type 0
 Made s = ∥ ((calls : List Call) × (s ≡ sheet-after calls)) ∥₁
 
-pub run-push : (s : Sheet) (cs : List Call) (c : Call) → run s (cs ++ c ∷ []) ≡ after (run s cs) c
-run-push s [] c = refl
-run-push s (k ∷ ks) c = run-push (after s k) ks c
+pub run-append : (s : Sheet) (cs ds : List Call) → run s (cs ++ ds) ≡ run (run s cs) ds
+run-append s [] ds = refl
+run-append s (c ∷ cs) ds = run-append (after s c) cs ds
 
 pub made-more : (s t : Sheet) (c : Call) → Made s → t ≡ after s c → Made t
-made-more s t c h e = ∥∥₁-map h (λ p. (p .0 ++ c ∷ [], e ∙ ap (λ (x : Sheet). after x c) (p .1) ∙ sym (run-push empty (p .0) c)))
+made-more s t c h e = ∥∥₁-map h (λ p. (p .0 ++ c ∷ [], e ∙ ap (λ (x : Sheet). after x c) (p .1) ∙ sym (run-append empty (p .0) (c ∷ []))))
