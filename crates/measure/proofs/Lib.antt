@@ -1,0 +1,3 @@
+pub mod Orders
+pub mod Rows
+pub mod Values

@@ -1,0 +1,6 @@
+use Rattle.measure.proofs.Rows.{rows-lawful}
+use Rattle.measure.specs.Books.{house}
+use Rattle.measure.proofs.books.house.HouseBookBook.the-impl.Needs as need
+
+pub lawful-law : need.lawful-law
+lawful-law b u h = rows-lawful house tt u

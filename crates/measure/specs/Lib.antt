@@ -1,0 +1,5 @@
+pub mod Models
+pub mod Lengths
+pub mod Answers
+pub mod Books
+pub mod Texts

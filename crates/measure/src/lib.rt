@@ -1,0 +1,47 @@
+// Lengths and size books: what the plan engine measures with, and how large a room of each use must be.
+ghost use mathlib.Core.Path.{_≡_};
+ghost use Prim.Native.Nat.{ℕ, _^_, _≤_};
+ghost use Rattle.measure.specs.Models.{Model, Laws};
+ghost use Rattle.measure.specs.Answers.{Added, Compared};
+use std::cmp::Ordering;
+
+pub mod book;
+pub mod books;
+pub mod lengths;
+
+// The greatest extent of a value.
+pub const GREATEST_EXTENT: u32 = 1 << 30;
+
+pub trait Measure: Copy {
+    // The extent that no step passes.
+    const GREATEST_STEP: u32;
+
+    ghost model: { Model };
+
+    ghost means: { Self → model .Element };
+
+    ghost greatest: { ℕ };
+
+    law lawful: { Laws model };
+
+    law bounded: { (x : Self) → model .extent (means x) ≤ 2 ^ 30 };
+
+    law moderate: { greatest ≤ 1000000 };
+
+    // The greatest step, for generic code to read.
+    fn step_limit() -> u32
+        ensures { λ r. ⌜ r ≡ greatest ⌝ };
+
+    fn zero() -> Self
+        ensures { λ r. ⌜ means r ≡ model .zero ⌝ };
+
+    // The sum, if its extent is one of a value.
+    fn add(self, other: Self) -> Option<Self>
+        ensures { λ r. ⌜ Added model means self other r ⌝ };
+
+    fn compare(self, other: Self) -> Ordering
+        ensures { λ r. ⌜ Compared model means self other r ⌝ };
+
+    fn extent(self) -> u32
+        ensures { λ r. ⌜ r ≡ model .extent (means self) ⌝ };
+}
