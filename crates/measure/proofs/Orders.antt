@@ -72,7 +72,7 @@ module _ {m : Model} (laws : Laws m) where
 
   -- where x and y are each at most the other they are equal, so the law's answers for x, y and for y, x are one
   split : (x y : m .Element) (p : m .at-most x y ⊎ m .at-most y x) (q : m .at-most y x ⊎ m .at-most x y)
-    → laws .total x y ≡ p → laws .total y x ≡ q → m .at-most x y ⊎ below m y x
+      → laws .total x y ≡ p → laws .total y x ≡ q → m .at-most x y ⊎ below m y x
   split x y (inl a) q ep eq = inl a
   split x y (inr b) (inr a) ep eq = inl a
   split x y (inr b) (inl c) ep eq = inr (λ a.

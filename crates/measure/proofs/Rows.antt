@@ -32,7 +32,7 @@ sized-fair width depth w d = record {
 }
 
 chosen : (found : Bool) (s : Size Millimetres) (rest : Option (Size Millimetres)) → Fair millimetres 60000 figure-of s
-  → Lawful millimetres 60000 figure-of rest → Lawful millimetres 60000 figure-of (cond found (Some s) rest)
+    → Lawful millimetres 60000 figure-of rest → Lawful millimetres 60000 figure-of (cond found (Some s) rest)
 chosen true s rest f l = f
 chosen false s rest f l = l
 
@@ -42,5 +42,5 @@ rows-lawful (r ∷ rs) t u =
     let here = both (sized (r .width) && sized (r .depth)) (all-sized rs) t in
     let sides = both (sized (r .width)) (sized (r .depth)) (here .0) in
     chosen (eqb u (r .purpose)) (by (r .width) (r .depth)) (listed rs u)
-      (sized-fair (r .width) (r .depth) (is-sized (r .width) (sides .0)) (is-sized (r .depth) (sides .1)))
-      (rows-lawful rs (here .1) u)
+    (sized-fair (r .width) (r .depth) (is-sized (r .width) (sides .0)) (is-sized (r .depth) (sides .1)))
+    (rows-lawful rs (here .1) u)

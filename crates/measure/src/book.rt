@@ -8,7 +8,7 @@ ghost use Rattle.std.specs.declared.option.Option.the-variants.{None};
 use crate::Measure;
 
 // How large a room must be at least.
-#[derive(Clone, Copy)]
+#[derive(Clone, Copy, PartialEq, Eq, Debug)]
 pub struct Size<M> {
     pub width: M,
     pub depth: M,

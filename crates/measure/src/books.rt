@@ -6,12 +6,16 @@ mod flat;
 mod house;
 mod partition;
 
+pub use flat::FlatBookBook;
+pub use house::HouseBookBook;
+pub use partition::PartitionBookBook;
+
 // The sizes of the house, in millimetres.
-#[derive(Clone, Copy)]
+#[derive(Clone, Copy, PartialEq, Eq, Debug)]
 pub struct HouseBook;
 
 // One width and one depth for every use, in millimetres.
-#[derive(Clone, Copy)]
+#[derive(Clone, Copy, PartialEq, Eq, Debug)]
 pub struct FlatBook {
     width: Millimetres,
     depth: Millimetres,
@@ -22,7 +26,7 @@ pub struct FlatBook {
 }
 
 // A book in millimetres with a partition on top of each size.
-#[derive(Clone, Copy)]
+#[derive(Clone, Copy, PartialEq, Eq, Debug)]
 pub struct PartitionBook<B> {
     pub below: B,
 }

@@ -8,6 +8,8 @@ use std::cmp::Ordering;
 pub mod book;
 pub mod books;
 pub mod lengths;
+#[cfg(test)]
+mod tests;
 
 // The greatest extent of a value.
 pub const GREATEST_EXTENT: u32 = 1 << 30;

@@ -3,12 +3,12 @@ ghost use mathlib.Core.Path.{_≡_};
 ghost use Rattle.measure.specs.Books.{Bound, Sized, flat};
 ghost use Rattle.fault.specs.declared.Fault.the-variants.{OutOfRange};
 ghost use Rattle.std.specs.declared.result.Result.the-variants.{Ok, Err};
+use crate::Measure;
 use crate::book::Book;
 use crate::book::Size;
 use crate::books::FlatBook;
 use crate::lengths::Millimetres;
 use crate::lengths::MillimetresMeasure;
-use crate::Measure;
 use fault::Fault;
 
 impl FlatBook {

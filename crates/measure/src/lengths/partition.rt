@@ -5,9 +5,9 @@ ghost use Rattle.measure.specs.Answers.{Made};
 ghost use Rattle.measure.specs.Lengths.{crossing, crossings, crossing-of};
 ghost use Rattle.measure.specs.Texts.{partition-text};
 ghost use Rattle.std.specs.declared.option.Option.the-variants.{Some};
-use crate::lengths::PartitionLength;
 use crate::GREATEST_EXTENT;
 use crate::Measure;
+use crate::lengths::PartitionLength;
 use fault::Fault;
 use std::cmp::Ordering;
 use std::fmt;
@@ -20,7 +20,9 @@ impl PartitionLength {
     pub fn new(clear: u32, partitions: u32) -> Result<PartitionLength, Fault>
         ensures { λ r. ⌜ Made crossings crossing-of (crossing clear partitions) r ⌝ }
     {
-        if u64::from(clear) + u64::from(THICKNESS) * u64::from(partitions) > u64::from(GREATEST_EXTENT) {
+        if u64::from(clear) + u64::from(THICKNESS) * u64::from(partitions)
+            > u64::from(GREATEST_EXTENT)
+        {
             return Err(Fault::OutOfRange);
         }
         Ok(PartitionLength { clear, partitions })
