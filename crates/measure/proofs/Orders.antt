@@ -8,18 +8,18 @@ use Rattle.measure.specs.Models.{Model, Laws, below}
 
 -- The two comparisons
 
-pub data Sort : Type 0 where
-  plain : Sort
-  strict : Sort
+pub data Comparison : Type 0 where
+  plain : Comparison
+  strict : Comparison
 
 -- plain: x is at most y; strict: x is below y
-abbrev pub Ordered : (m : Model) → Sort → m .Element → m .Element → Type 0
+abbrev pub Ordered : (m : Model) → Comparison → m .Element → m .Element → Type 0
 Ordered m plain x y = m .at-most x y
 Ordered m strict x y = below m x y
 
 -- two comparisons in a row are strict if either is
 infixl 20 _then_
-abbrev pub _then_ : Sort → Sort → Sort
+abbrev pub _then_ : Comparison → Comparison → Comparison
 plain then k = k
 strict then k = strict
 
@@ -112,7 +112,7 @@ module _ {m : Model} (laws : Laws m) where
 
   -- One comparison after another
 
-  pub chained : (j k : Sort) (x y z : m .Element) → Ordered m j x y → Ordered m k y z → Ordered m (j then k) x z
+  pub chained : (j k : Comparison) (x y z : m .Element) → Ordered m j x y → Ordered m k y z → Ordered m (j then k) x z
   chained plain plain x y z a b = laws .transitive x y z a b
   chained plain strict x y z a b = λ c. b (laws .transitive z x y c a)
   chained strict plain x y z a b = λ c. a (laws .transitive y z x b c)
@@ -120,16 +120,16 @@ module _ {m : Model} (laws : Laws m) where
 
   -- Sums
 
-  pub add-after : (k : Sort) (x y z : m .Element) → Ordered m k x y → Ordered m k (m .sum x z) (m .sum y z)
+  pub add-after : (k : Comparison) (x y z : m .Element) → Ordered m k x y → Ordered m k (m .sum x z) (m .sum y z)
   add-after plain x y z a = ⊎-elim (λ e. same-at-most (ap (λ u. m .sum u z) e)) (λ b. weaken (laws .grows-first x y z b)) (same-or-below a)
   add-after strict x y z b = laws .grows-first x y z b
 
-  pub drop-after : (k : Sort) (x y z : m .Element) → Ordered m k (m .sum x z) (m .sum y z) → Ordered m k x y
+  pub drop-after : (k : Comparison) (x y z : m .Element) → Ordered m k (m .sum x z) (m .sum y z) → Ordered m k x y
   drop-after plain x y z a = ⊎-elim (λ b. b) (λ b. absurd (laws .grows-first y x z b a)) (decided x y)
   drop-after strict x y z b = λ a. b (add-after plain y x z a)
 
   -- a step before x: x is below s + x if zero is below s, and at most s + x if zero is at most s
-  pub step-before : (k : Sort) (s x : m .Element) → Ordered m k (m .zero) s → Ordered m k x (m .sum s x)
+  pub step-before : (k : Comparison) (s x : m .Element) → Ordered m k (m .zero) s → Ordered m k x (m .sum s x)
   step-before k s x o = subst (λ u. Ordered m k u (m .sum s x)) (laws .zero-first x) (add-after k (m .zero) s x o)
 
   -- The greater of two
@@ -162,22 +162,22 @@ module _ {m : Model} (laws : Laws m) where
   greater-bounds x y = larger-bounds x y (decided x y)
 
   -- what neither is above, or what both are below, it is not above, or is below
-  pub greater-within : (k : Sort) (x y z : m .Element) → Ordered m k x z → Ordered m k y z → Ordered m k (greater x y) z
+  pub greater-within : (k : Comparison) (x y z : m .Element) → Ordered m k x z → Ordered m k y z → Ordered m k (greater x y) z
   greater-within k x y z = greater-is (λ u. Ordered m k u z) x y
 
 module _ {m : Model} (laws : Laws m) where
   -- Sums at the other end, and at both
 
-  pub add-before : (k : Sort) (x y z : m .Element) → Ordered m k x y → Ordered m k (m .sum z x) (m .sum z y)
+  pub add-before : (k : Comparison) (x y z : m .Element) → Ordered m k x y → Ordered m k (m .sum z x) (m .sum z y)
   add-before = add-after (mirrored-laws laws)
 
-  pub drop-before : (k : Sort) (x y z : m .Element) → Ordered m k (m .sum z x) (m .sum z y) → Ordered m k x y
+  pub drop-before : (k : Comparison) (x y z : m .Element) → Ordered m k (m .sum z x) (m .sum z y) → Ordered m k x y
   drop-before = drop-after (mirrored-laws laws)
 
-  pub step-after : (k : Sort) (s x : m .Element) → Ordered m k (m .zero) s → Ordered m k x (m .sum x s)
+  pub step-after : (k : Comparison) (s x : m .Element) → Ordered m k (m .zero) s → Ordered m k x (m .sum x s)
   step-after = step-before (mirrored-laws laws)
 
-  pub add-both : (j k : Sort) (x y u v : m .Element) → Ordered m j x y → Ordered m k u v → Ordered m (j then k) (m .sum x u) (m .sum y v)
+  pub add-both : (j k : Comparison) (x y u v : m .Element) → Ordered m j x y → Ordered m k u v → Ordered m (j then k) (m .sum x u) (m .sum y v)
   add-both j k x y u v o p = chained laws j k (m .sum x u) (m .sum y u) (m .sum y v) (add-after laws j x y u o) (add-before k u v y p)
 
   -- The lesser of two
@@ -193,5 +193,5 @@ module _ {m : Model} (laws : Laws m) where
   unfolding lesser
   lesser-bounds = greater-bounds (reversed-laws laws)
 
-  pub lesser-within : (k : Sort) (x y z : m .Element) → Ordered m k z x → Ordered m k z y → Ordered m k z (lesser x y)
+  pub lesser-within : (k : Comparison) (x y z : m .Element) → Ordered m k z x → Ordered m k z y → Ordered m k z (lesser x y)
   lesser-within k x y z = lesser-is (λ u. Ordered m k z u) x y

@@ -1,11 +1,11 @@
 -- A book of rows is lawful when its rows are: the rule is one test of the whole table, which antt computes.
 use mathlib.Core.Bool.{Bool, true, false, cond, _&&_}
 use mathlib.Core.List.{List, [], _∷_}
-use Prim.Native.Nat.{ℕ, _≤_}
+use Prim.Native.Nat.{ℕ}
 use native.Mathlib.Omega.{arith}
 use lib.Dec.{T, eqb, leb, leb→le}
 use Rattle.std.specs.declared.option.Option.{Option}
-use Rattle.std.specs.declared.option.Option.the-variants.{Some, None}
+use Rattle.std.specs.declared.option.Option.the-variants.{Some}
 use Rattle.measure.specs.Books.{Fair, Lawful, Row, Sized, by, listed}
 use Rattle.measure.specs.Lengths.{figure-of, millimetres}
 use Rattle.measure.specs.declared.book.Size.{Size}

@@ -1,10 +1,9 @@
 -- What a size book says: for each use nothing, or a width and a depth.
-use mathlib.Core.Bool.{_&&_, cond}
+use mathlib.Core.Bool.{cond}
 use mathlib.Core.List.{List, [], _∷_}
 use mathlib.Core.Path.{_≡_}
-use Prim.Native.Nat.{ℕ, zero, suc, min, _+_, _-_, _*_, _^_, _≤_}
-use native.Mathlib.Omega.{arith}
-use lib.Dec.{T, eqb, leb, leb→le}
+use Prim.Native.Nat.{ℕ, zero, suc, _≤_}
+use lib.Dec.{eqb}
 use Rattle.std.specs.Options.{mapped}
 use Rattle.std.specs.declared.option.Option.{Option}
 use Rattle.std.specs.declared.option.Option.the-variants.{Some, None}
@@ -19,12 +18,12 @@ use Rattle.measure.specs.declared.books.FlatBook.{FlatBook}
 use Rattle.measure.specs.declared.lengths.Millimetres.{Millimetres}
 use Rattle.measure.specs.declared.lengths.PartitionLength.{PartitionLength}
 
--- a size whose width and depth may both be steps
+-- a size that a book may have: its width and its depth may both be steps
 pub record Fair (m : Model) (greatest : ℕ) {Value : Type 0} (means : Value → m .Element) (s : Size Value) : Type 0 where
   pub width : Step m greatest (means (s .width))
   pub depth : Step m greatest (means (s .depth))
 
--- no size, or one that is fair
+-- what a book may say of a use: nothing, or a fair size
 abbrev pub Lawful : (m : Model) (greatest : ℕ) {Value : Type 0} (means : Value → m .Element) → Option (Size Value) → Type 0
 Lawful m greatest means None = Unit {0}
 Lawful m greatest means (Some s) = Fair m greatest means s
@@ -65,13 +64,13 @@ abbrev pub flat : FlatBook → ℕ → Option (Size Millimetres)
 flat b zero = None
 flat b (suc u) = Some (record { width = b .width; depth = b .depth })
 
--- the same uses, with a partition on each size
+-- the same uses, with a partition on top of each size
 abbrev pub with-partitions : (ℕ → Option (Size Millimetres)) → ℕ → Option (Size PartitionLength)
 with-partitions table u = mapped (λ s. record { width = partitioned (s .width); depth = partitioned (s .depth) }) (table u)
 
--- what a partition book answers where the book below says `under`: as many partitions as sizes, and the same clear millimetres
+-- a partition book's answer to what the book below it says: nothing to nothing, and to a size the same clear millimetres with one partition each
 abbrev pub Partitioned : Option (Size Millimetres) → Option (Size PartitionLength) → Type 0
 Partitioned None None = Unit {0}
-Partitioned (Some s) (Some t) = (crossing-of (t .width) ≡ crossing (s .width .figure) 1) × (crossing-of (t .depth) ≡ crossing (s .depth .figure) 1)
 Partitioned None (Some t) = ⊥
 Partitioned (Some s) None = ⊥
+Partitioned (Some s) (Some t) = (crossing-of (t .width) ≡ crossing (s .width .figure) 1) × (crossing-of (t .depth) ≡ crossing (s .depth .figure) 1)

@@ -1,5 +1,5 @@
 pub mod Models
 pub mod Lengths
-pub mod Answers
+pub mod Replies
 pub mod Books
 pub mod Texts

@@ -14,15 +14,19 @@ pub struct Size<M> {
     pub depth: M,
 }
 
+// A size book: what it says of each use, in one measure.
 pub trait Book {
     type M: Measure;
 
+    // what it says of a use: nothing, or a size
     ghost table: { Self → ℕ → Option (Size Self·M) };
 
     law lawful: { (b : Self) (u : ℕ) → u ≤ 255 → Lawful (M·Measure .model) (M·Measure .greatest) (M·Measure .means) (table b u) };
 
+    // 0 is no use
     law unused: { (b : Self) → table b 0 ≡ None };
 
+    // The size of a use, if the book has it.
     fn lookup(&self, purpose: u8) -> Option<Size<Self::M>>
         ensures says { λ r. ⌜ r ≡ table (now (self .entry)) purpose ⌝ }
         ensures lawful { λ r. ⌜ Lawful (M·Measure .model) (M·Measure .greatest) (M·Measure .means) r ⌝ };

@@ -1,6 +1,8 @@
 // The size books. What they say is in `house`, `flat` and `partition`, since those contracts cite what names the books.
 ghost use Prim.Native.Nat.{_≤_};
 use crate::lengths::Millimetres;
+use crate::lengths::MillimetresDebug;
+use crate::lengths::MillimetresPartialEq;
 
 mod flat;
 mod house;

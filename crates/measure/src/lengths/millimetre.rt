@@ -1,7 +1,5 @@
 // Millimetres as a measure.
-ghost use mathlib.Core.Path.{_≡_};
-ghost use Prim.Native.Nat.{_^_, _≤_};
-ghost use Rattle.measure.specs.Answers.{Made};
+ghost use Rattle.measure.specs.Replies.{Made};
 ghost use Rattle.measure.specs.Lengths.{millimetres, figure-of};
 ghost use Rattle.measure.specs.Texts.{millimetres-text};
 ghost use Rattle.std.specs.declared.option.Option.the-variants.{Some};

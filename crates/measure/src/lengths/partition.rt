@@ -1,7 +1,6 @@
 // Partition lengths as a measure.
 ghost use mathlib.Core.Path.{_≡_};
-ghost use Prim.Native.Nat.{_^_, _≤_};
-ghost use Rattle.measure.specs.Answers.{Made};
+ghost use Rattle.measure.specs.Replies.{Made};
 ghost use Rattle.measure.specs.Lengths.{crossing, crossings, crossing-of};
 ghost use Rattle.measure.specs.Texts.{partition-text};
 ghost use Rattle.std.specs.declared.option.Option.the-variants.{Some};
