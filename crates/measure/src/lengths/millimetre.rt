@@ -40,15 +40,15 @@ pub impl Measure for Millimetres as MillimetresMeasure {
     }
 
     fn add(self, other: Millimetres) -> Option<Millimetres> {
-        let figure = self.figure + other.figure;
-        if figure > GREATEST_EXTENT {
+        let sum = self.figure + other.figure;
+        if sum > GREATEST_EXTENT {
             return None;
         }
-        Some(Millimetres { figure })
+        Some(Millimetres { figure: sum })
     }
 
     fn compare(self, other: Millimetres) -> Ordering {
-        self.figure.cmp(&other.figure)
+        self.extent().cmp(&other.extent())
     }
 
     fn extent(self) -> u32 {

@@ -80,7 +80,7 @@ pub impl Measure for PartitionLength as PartitionLengthMeasure {
     }
 
     fn extent(self) -> u32 {
-        self.clear + THICKNESS * self.partitions
+        THICKNESS * self.partitions + self.clear
     }
 }
 
