@@ -98,6 +98,13 @@ module _ {m : Model} (laws : Laws m) where
   pub same-at-most : {x y : m .Element} → x ≡ y → m .at-most x y
   same-at-most {x} e = subst (λ u. m .at-most x u) e (laws .reflexive x)
 
+  -- below is at most and different
+  pub differs : {x y : m .Element} → below m x y → x ≡ y → ⊥
+  differs b e = b (same-at-most (sym e))
+
+  pub at-most-different : {x y : m .Element} → m .at-most x y → (x ≡ y → ⊥) → below m x y
+  at-most-different {x} {y} a n = λ b. n (laws .antisymmetric x y a b)
+
   pub same-or-below : {x y : m .Element} → m .at-most x y → (x ≡ y) ⊎ below m x y
   same-or-below {x} {y} a = ⊎-elim (λ b. inl (laws .antisymmetric x y a b)) inr (decided y x)
 
@@ -106,7 +113,7 @@ module _ {m : Model} (laws : Laws m) where
 
   pub same-or-not : (x y : m .Element) → (x ≡ y) ⊎ (x ≡ y → ⊥)
   same-or-not x y = ⊎-elim
-      (λ a. ⊎-elim inl (λ b. inr (λ e. b (same-at-most (sym e)))) (same-or-below a))
+      (λ a. ⊎-elim inl (λ b. inr (differs b)) (same-or-below a))
       (λ b. inr (λ e. b (same-at-most e)))
       (decided x y)
 

@@ -55,9 +55,9 @@ abbrev pub Sized : ℕ → Type 0
 Sized n = (1 ≤ n) × (n ≤ 60000)
 
 -- making a flat book: refused exactly when a figure is no size
-abbrev pub Bound : ℕ → ℕ → Result FlatBook Fault → Type 0
-Bound width depth (Ok b) = (b .width .figure ≡ width) × (b .depth .figure ≡ depth) × (Sized width × Sized depth)
-Bound width depth (Err f) = (f ≡ OutOfRange) × (Sized width × Sized depth → ⊥)
+abbrev pub Flat-made : ℕ → ℕ → Result FlatBook Fault → Type 0
+Flat-made width depth (Ok b) = (b .width .figure ≡ width) × (b .depth .figure ≡ depth) × (Sized width × Sized depth)
+Flat-made width depth (Err f) = (f ≡ OutOfRange) × (Sized width × Sized depth → ⊥)
 
 -- one size for every use; 0 is no use
 abbrev pub flat : FlatBook → ℕ → Option (Size Millimetres)

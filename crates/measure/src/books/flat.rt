@@ -1,6 +1,6 @@
 // The flat book.
 ghost use mathlib.Core.Path.{_≡_};
-ghost use Rattle.measure.specs.Books.{Bound, Sized, flat};
+ghost use Rattle.measure.specs.Books.{Flat-made, Sized, flat};
 ghost use Rattle.fault.specs.declared.Fault.the-variants.{OutOfRange};
 ghost use Rattle.std.specs.declared.result.Result.the-variants.{Ok, Err};
 use crate::Measure;
@@ -14,7 +14,7 @@ use fault::Fault;
 impl FlatBook {
     // A book of this width and depth, each 1 to 60,000 mm, or out of range.
     pub fn new(width: u32, depth: u32) -> Result<FlatBook, Fault>
-        ensures { λ r. ⌜ Bound width depth r ⌝ }
+        ensures { λ r. ⌜ Flat-made width depth r ⌝ }
     {
         let width = sized(width)?;
         let depth = sized(depth)?;

@@ -1,3 +1,4 @@
+-- A figure up to 60,000 is not cut.
 use native.Mathlib.Omega.{arith}
 use borrow.Author.Needs.{needs}
 use Rattle.measure.proofs.Values.{same-partition-length}

@@ -1,3 +1,4 @@
+-- The house book is lawful, since each of its rows is.
 use Rattle.measure.proofs.Rows.{rows-lawful}
 use Rattle.measure.specs.Books.{house}
 use Rattle.measure.proofs.books.house.HouseBookBook.the-impl.Needs as need
