@@ -216,8 +216,12 @@ fn a_partition_book_adds_a_partition_to_each_size() -> Result<(), Fail> {
         width: crossing((2400, 1))?,
         depth: crossing((3000, 1))?,
     };
+    let kitchen = Size {
+        width: crossing((2400, 1))?,
+        depth: crossing((2400, 1))?,
+    };
     check_eq(house.lookup(2), Some(office))?;
-    check(house.lookup(6).is_some())?;
+    check_eq(house.lookup(6), Some(kitchen))?;
     for purpose in [0, 7, 255] {
         check_eq(house.lookup(purpose), None)?;
     }
