@@ -1,5 +1,6 @@
 // Partition lengths as a measure.
 ghost use mathlib.Core.Path.{_≡_};
+ghost use Prim.Native.Nat.{_+_, _*_};
 ghost use Rattle.measure.specs.Replies.{Made};
 ghost use Rattle.measure.specs.Lengths.{crossing, crossings, crossing-of};
 ghost use Rattle.measure.specs.Texts.{partition-text};
@@ -14,14 +15,19 @@ use std::fmt;
 // The thickness of a partition in millimetres.
 const THICKNESS: u32 = 100;
 
+// The distance of any figures, in more bits than they have.
+fn distance(clear: u32, partitions: u32) -> u64
+    ensures { λ r. ⌜ r ≡ clear + 100 * partitions ⌝ }
+{
+    u64::from(clear) + u64::from(THICKNESS) * u64::from(partitions)
+}
+
 impl PartitionLength {
     // So many millimetres in the clear and so many partitions, or out of range.
     pub fn new(clear: u32, partitions: u32) -> Result<PartitionLength, Fault>
         ensures { λ r. ⌜ Made crossings crossing-of (crossing clear partitions) r ⌝ }
     {
-        if u64::from(clear) + u64::from(THICKNESS) * u64::from(partitions)
-            > u64::from(GREATEST_EXTENT)
-        {
+        if distance(clear, partitions) > u64::from(GREATEST_EXTENT) {
             return Err(Fault::OutOfRange);
         }
         Ok(PartitionLength { clear, partitions })
