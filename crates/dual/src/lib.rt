@@ -1,4 +1,6 @@
 // The rectangular dual of a sheet: what plans are, and what a plan forces of the sheet that it keeps.
+#![tactic(auto)]
+
 ghost use Rattle.dual.specs.Examples.{Kept, two_rooms, two_rooms_plan, staggered, staggered_plan, pinwheel, pinwheel_plan};
 ghost use Rattle.dual.specs.Forced.{InEveryDual, InEveryPlan, Neighboured, NotBelow};
 

@@ -1,4 +1,6 @@
 // The one fault type of the engine: why a call is refused, and what the refusal names.
+#![tactic(auto)]
+
 ghost use Rattle.std.specs.Prelude.{◌≡◌};
 ghost use Rattle.fault.specs.Told.{told};
 

@@ -1,4 +1,6 @@
 // Lengths and size books: what the plan engine measures with, and how large a room of each use must be.
+#![tactic(auto)]
+
 ghost use Rattle.std.specs.Prelude.{◌≡◌, ℕ, ◌^◌, ◌≤◌};
 ghost use Rattle.measure.specs.Models.{Model, Laws};
 ghost use Rattle.measure.specs.Replies.{Added, Compared};

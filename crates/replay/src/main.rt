@@ -1,4 +1,6 @@
 // Replays a journal from standard input: a line for each of its lines, then the sheet, then a summary.
+#![tactic(auto)]
+
 use journal::session::Session;
 use std::io;
 use std::io::{Read, Write};
