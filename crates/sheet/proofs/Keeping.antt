@@ -18,9 +18,14 @@ use Rattle.sheet.proofs.Rules.{Made, made_more, sound_after}
 
 -- the ghost fields of a board, as the check asks for them
 abbrev pub Kept : Table → Type 0
-Kept t =
-    (t.rooms ≤ 200) × ((t.marks ≤ 600) × ((length (sheet_in t).uses ≡ t.rooms) × ((length (sheet_in t).pairs ≡ t.marks)
-    × (∥ Sound (sheet_in t) ∥₁ × (Made (sheet_in t) × Unit {0})))))
+Kept t = record {
+  few : t.rooms ≤ 200;
+  short : t.marks ≤ 600;
+  rooms : length (sheet_in t).uses ≡ t.rooms;
+  marks : length (sheet_in t).pairs ≡ t.marks;
+  sound : ∥ Sound (sheet_in t) ∥₁;
+  made : Made (sheet_in t);
+}
 
 pub sound : (b : Board) → Sound (sheet_of b)
 sound b = ∥∥₁_elim b.sound (sound_prop (sheet_of b)) (λ h. h)
@@ -30,7 +35,14 @@ module _ (b : Board) (t : Table) (c : Call) (e : sheet_in t ≡ after (sheet_of 
   pub kept : length (sheet_in t).uses ≡ t.rooms → length (sheet_in t).pairs ≡ t.marks → Kept t
   kept r m =
       let s : Sound (sheet_in t) = subst Sound (sym e) (sound_after (sheet_of b) c (sound b)) in
-      (omega (arith, s.few_rooms), (omega (arith, s.few_pairs), (r, (m, (∣ s ∣₁, (made_more (sheet_of b) (sheet_in t) c b.made e, tt))))))
+      record {
+        few = omega (arith, s.few_rooms);
+        short = omega (arith, s.few_pairs);
+        rooms = r;
+        marks = m;
+        sound = ∣ s ∣₁;
+        made = made_more (sheet_of b) (sheet_in t) c b.made e;
+      }
 
 module _ (b : Board) (t : Table) where
   pub room_counts : (u : ℕ) → sheet_in t ≡ with_room (sheet_of b) u → t.rooms ≡ b.table.rooms + 1 → t.marks ≡ b.table.marks

@@ -8,10 +8,10 @@ pub returns-then-field : goal.returns-then-field
 unfolding pair_fits
 returns-then-field c = grind (arith, nat_tests)
 
-pub returns-then-is-held : goal.returns-then-is-held
+pub returns-then-is_held : goal.returns-then-is_held
 unfolding pair_fits
-returns-then-is-held c = grind (arith, nat_tests)
+returns-then-is_held c = grind (arith, nat_tests)
 
-pub returns-else-is-held : goal.returns-else-is-held
+pub returns-else-is_held : goal.returns-else-is_held
 unfolding pair_fits
-returns-else-is-held c = grind (arith, nat_tests)
+returns-else-is_held c = grind (arith, nat_tests)

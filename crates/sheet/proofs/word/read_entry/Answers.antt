@@ -13,13 +13,13 @@ pub returns-in-1-2 : goal.returns-in-1-2
 unfolding is_room
 returns-in-1-2 c = grind (arith, nat_tests)
 
-pub returns-in-ok-read-pair : goal.returns-in-ok-read-pair
+pub returns-in_ok-read_pair-in_default : goal.returns-in_ok-read_pair-in_default
 unfolding is_room
-returns-in-ok-read-pair c = let n : is_room c.args.word ≡ false = grind (arith, nat_tests) in (n, c.in-ok-read-pair.ensures)
+returns-in_ok-read_pair-in_default c = let n : is_room c.args.word ≡ false = grind (arith, nat_tests) in (n, c.in_ok-read_pair-in_default.ensures)
 
-pub returns-in-err-read-pair : goal.returns-in-err-read-pair
+pub returns-in_err-read_pair-in_default : goal.returns-in_err-read_pair-in_default
 unfolding is_room
-returns-in-err-read-pair c =
+returns-in_err-read_pair-in_default c =
     let n : is_room c.args.word ≡ false = grind (arith, nat_tests) in
-    let p = err_from_is_err_and c.from-residual.result c.from-residual.ensures.1 in
-    rw (p.1, p.2) (inr (n, c.in-err-read-pair.ensures))
+    let p = err_from_is_err_and c.from_residual.result c.from_residual.ensures.1 in
+    rw (p.1, p.2) (inr (n, c.in_err-read_pair-in_default.ensures))

@@ -12,14 +12,14 @@ pub returns-in-3 : goal.returns-in-3
 unfolding is_pair pair_in
 returns-in-3 c = grind (arith, nat_tests)
 
-pub returns-in-default : goal.returns-in-default
+pub returns-in_default : goal.returns-in_default
 unfolding is_pair pair_in
-returns-in-default c = grind (arith, nat_tests)
+returns-in_default c = grind (arith, nat_tests)
 
 pub returns-in-2-2 : goal.returns-in-2-2
 unfolding is_pair pair_in
 returns-in-2-2 c = grind (arith, nat_tests)
 
-pub returns-in-2-2·2 : goal.returns-in-2-2·2
+pub returns-in-2-2-2 : goal.returns-in-2-2-2
 unfolding is_pair pair_in
-returns-in-2-2·2 c = grind (arith, nat_tests)
+returns-in-2-2-2 c = grind (arith, nat_tests)

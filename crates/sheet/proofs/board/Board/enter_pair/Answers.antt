@@ -16,22 +16,22 @@ returns-then-pair c =
     let k = pair_itself c.args.self.now c.args.word c.args.pair c.requires c.if-self-eq-PAIRS.false c.if-pair.true in
     record { sheet = k.0; reply = k.1 }
 
-pub returns-then-is-joined : goal.returns-then-is-joined
-returns-then-is-joined c =
-    let k = pair_joined c.args.self.now c.args.word c.args.pair c.requires c.if-self-eq-PAIRS.false c.if-pair.false (sym c.if-is-joined.ensures) in
+pub returns-then-is_joined : goal.returns-then-is_joined
+returns-then-is_joined c =
+    let k = pair_joined c.args.self.now c.args.word c.args.pair c.requires c.if-self-eq-PAIRS.false c.if-pair.false (sym c.if-is_joined.ensures) in
     record { sheet = k.0; reply = k.1 }
 
-pub invariant-of-self : goal.invariant-of-self
-invariant-of-self c =
+pub invariant_of-self : goal.invariant_of-self
+invariant_of-self c =
     let b = c.args.self.now in
     let w = c.args.word in
     let p = c.args.pair in
-    let t = c.add-pair.new.self in
-    let e = c.add-pair.ensures.sheet in
-    let n = pair_counts b t p e c.add-pair.ensures.rooms c.add-pair.ensures.marks in
-    kept b t (edit (Enter w)) (pair_entered b w p c.requires c.if-self-eq-PAIRS.false c.if-pair.false t (sym c.if-is-joined.ensures) e).0 n.0 n.1
+    let t = c.add_pair.new.self in
+    let e = c.add_pair.ensures.sheet in
+    let n = pair_counts b t p e c.add_pair.ensures.rooms c.add_pair.ensures.marks in
+    kept b t (edit (Enter w)) (pair_entered b w p c.requires c.if-self-eq-PAIRS.false c.if-pair.false t (sym c.if-is_joined.ensures) e).0 n.0 n.1
 
 pub returns : goal.returns
 returns c =
-    let k = pair_entered c.args.self.now c.args.word c.args.pair c.requires c.if-self-eq-PAIRS.false c.if-pair.false c.add-pair.new.self (sym c.if-is-joined.ensures) c.add-pair.ensures.sheet in
+    let k = pair_entered c.args.self.now c.args.word c.args.pair c.requires c.if-self-eq-PAIRS.false c.if-pair.false c.add_pair.new.self (sym c.if-is_joined.ensures) c.add_pair.ensures.sheet in
     record { sheet = k.0; reply = k.1 }

@@ -11,16 +11,16 @@ returns-then-self-eq-ROOMS c =
     let k = room_full c.args.self.now c.args.word c.args.purpose c.requires (omega arith) in
     record { sheet = k.0; reply = k.1 }
 
-pub invariant-of-self : goal.invariant-of-self
-invariant-of-self c =
+pub invariant_of-self : goal.invariant_of-self
+invariant_of-self c =
     let b = c.args.self.now in
     let w = c.args.word in
-    let t = c.add-room.new.self in
-    let e = c.add-room.ensures.sheet in
-    let n = room_counts b t c.args.purpose e c.add-room.ensures.rooms c.add-room.ensures.marks in
+    let t = c.add_room.new.self in
+    let e = c.add_room.ensures.sheet in
+    let n = room_counts b t c.args.purpose e c.add_room.ensures.rooms c.add_room.ensures.marks in
     kept b t (edit (Enter w)) (room_entered b w c.args.purpose c.requires t c.if-self-eq-ROOMS.false e).0 n.0 n.1
 
 pub returns : goal.returns
 returns c =
-    let k = room_entered c.args.self.now c.args.word c.args.purpose c.requires c.add-room.new.self c.if-self-eq-ROOMS.false c.add-room.ensures.sheet in
+    let k = room_entered c.args.self.now c.args.word c.args.purpose c.requires c.add_room.new.self c.if-self-eq-ROOMS.false c.add_room.ensures.sheet in
     record { sheet = k.0; reply = k.1 }

@@ -5,9 +5,16 @@ use Rattle.sheet.specs.Sound.{Sound}
 use Rattle.sheet.proofs.Rules.{always_sound}
 use Rattle.sheet.proofs.board.Board.new.Goals as goal
 
-pub invariant-of-result : goal.invariant-of-result
-invariant-of-result c =
+pub invariant_of-result : goal.invariant_of-result
+invariant_of-result c =
     let e = c.new.ensures.sheet in
     let r = ap (λ (s : Sheet). length s.uses) e ∙ sym c.new.ensures.rooms in
     let m = ap (λ (s : Sheet). length s.pairs) e ∙ sym c.new.ensures.marks in
-    (omega arith, (omega arith, (r, (m, (∣ subst Sound (sym e) (always_sound []) ∣₁, (∣ ([], e) ∣₁, tt))))))
+    record {
+      few = omega arith;
+      short = omega arith;
+      rooms = r;
+      marks = m;
+      sound = ∣ subst Sound (sym e) (always_sound []) ∣₁;
+      made = ∣ ([], e) ∣₁;
+    }
