@@ -1,11 +1,9 @@
 -- A test of bytes that found a prefix, or found none, has the answer of the definition's own test of the same bytes.
-use Rattle.std.proofs.Common.{◌≡◌, ℕ, ◌<◌, ◌≤◌, Bool, true, false, cond, ◌⊎◌, List, length, take, drop, None, codes, Decides, Option, sym, refl, ap, ◌∙◌, inl, inr, ⊎_elim, arith, rules}
-use Rattle.std.specs.Cmp.Lexicographic.{Matches}
+use Rattle.std.proofs.Common.{◌≡◌, ℕ, ◌<◌, ◌≤◌, ◌==◌, ◌&&◌, Bool, true, false, cond, ◌⊎◌, List, [], ◌∷◌, length, take, drop, None, codes, nat_eq, Option, sym, refl, ap, ◌∙◌, inl, inr, ⊎_elim, arith}
+use Rattle.std.specs.Cmp.Lexicographic.{pointwise}
 use Rattle.std.specs.Option.{option_map}
-use Rattle.std.proofs.lemmas.Slice.Eq.{compares_Decides, slice_eq-Decides}
 use Rattle.std.proofs.lemmas.List.{length-drop, length-take, take_all}
 use Rattle.std.proofs.lemmas.Bool.{cases_lt}
-use Rattle.std.proofs.lemmas.Bool.Decides.{same_from_decides, Decides-eqb}
 use Rattle.journal.specs.Lines.{said, same_bytes, word_in}
 use Rattle.sheet.specs.declared.edit.Edit.{Edit}
 use Rattle.sheet.specs.declared.edit.Edit.TheVariants.{Enter, Strike}
@@ -13,11 +11,17 @@ use Rattle.journal.proofs.Words.{no_word_length}
 
 -- what a comparison of bytes tells
 abbrev Tested : List ℕ → List ℕ → Bool → Type 0
-Tested xs ys r = Matches (λ (a b : ℕ) (t : Bool). Decides t (a ≡ b)) xs ys r
+Tested xs ys r = pointwise nat_eq xs ys ≡ r
+
+-- the definition's test is the library's, byte by byte
+same_as_pointwise : (xs ys : List ℕ) → same_bytes xs ys ≡ pointwise nat_eq xs ys
+same_as_pointwise [] [] = refl
+same_as_pointwise [] (y ∷ ys) = refl
+same_as_pointwise (x ∷ xs) [] = refl
+same_as_pointwise (x ∷ xs) (y ∷ ys) = ap (λ b. x == y && b) (same_as_pointwise xs ys)
 
 answer : (xs ys : List ℕ) (r : Bool) → Tested xs ys r → same_bytes xs ys ≡ r
-answer xs ys r h =
-    sym (same_from_decides r (same_bytes xs ys) (slice_eq-Decides Decides-eqb xs ys r h) (compares_Decides same_bytes (search rules) xs ys))
+answer xs ys r h = same_as_pointwise xs ys ∙ h
 
 module _ (line : List ℕ) where
   pub said_enter : (rest : List ℕ) → Tested (take 6 line) (codes "enter ") true → rest ≡ drop 6 line → said line ≡ option_map Enter (word_in rest)

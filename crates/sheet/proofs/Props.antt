@@ -1,7 +1,7 @@
 -- Two proofs that a sheet keeps to the rules are equal, since each rule is an order, an equation of numbers, or a refutation.
 use Rattle.std.proofs.Common.{◌≡◌, ℕ, List, [], ◌∷◌, refl}
 use denote.Struct.Props.{props}
-use native.Mathlib.Bridge.{le_prop as le-one}
+use native.Mathlib.Bridge.{le_prop as le_one}
 use native.Mathlib.Nat.{ℕ_set}
 use Rattle.std.specs.List.{AllByRecursion}
 use Rattle.sheet.specs.Sheets.{Sheet}
@@ -27,8 +27,8 @@ two_prop n p a b = λ i. record {
 
 pub sound_prop : (s : Sheet) → IsProp (Sound s)
 sound_prop s a b = λ i. record {
-  few_rooms = le-one a.few_rooms b.few_rooms i;
-  few_pairs = le-one a.few_pairs b.few_pairs i;
+  few_rooms = le_one a.few_rooms b.few_rooms i;
+  few_pairs = le_one a.few_pairs b.few_pairs i;
   uses = all_prop (Within 1 255) (within_prop 1 255) s.uses a.uses b.uses i;
   pairs = all_prop (JoinsTwo _) (two_prop _) s.pairs a.pairs b.pairs i;
   apart = λ j k p q e f t. ℕ_set j k (a.apart j k p q e f t) (b.apart j k p q e f t) i;

@@ -11,18 +11,18 @@ pub loop-byte-init : goal.loop-byte-init
 unfolding spelled
 loop-byte-init c = search rules
 
-pub overflow-mul-value : goal.overflow-mul-value
-overflow-mul-value c = search (rules, spelled_fits)
+pub overflow_mul-value : goal.overflow_mul-value
+overflow_mul-value c = search (rules, spelled_fits)
 
-pub returns-in-err-digit-value : goal.returns-in-err-digit-value
-returns-in-err-digit-value c = search (rules, no_word_digit)
+pub returns-in_err-digit_value : goal.returns-in_err-digit_value
+returns-in_err-digit_value c = search (rules, no_word_digit)
 
 -- the digit that was read
 found : (c : goal.After-from) → Some c.from.result ≡ digit (get_or c.args.text.now c.loop-byte.byte-index 0)
-found c = ap Some c.from.ensures ∙ c.in-ok-digit-value.ensures
+found c = ap Some c.from.ensures ∙ c.in_ok-digit_value.ensures
 
-pub overflow-add-value : goal.overflow-add-value
-overflow-add-value c = let h = found c in search (rules, spelled_fits, digit_value_below)
+pub overflow_add-value : goal.overflow_add-value
+overflow_add-value c = let h = found c in search (rules, spelled_fits, digit_value_below)
 
 pub loop-byte-preserved : goal.loop-byte-preserved
 loop-byte-preserved c =

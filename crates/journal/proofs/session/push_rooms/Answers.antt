@@ -10,7 +10,7 @@ loop-index-init c = sym (append-nil (string_bytes c.args.out.now))
 
 pub loop-index-preserved : goal.loop-index-preserved
 loop-index-preserved c =
-    rooms_more (string_bytes c.args.out.now) (string_bytes c.loop-index.out) (string_bytes c.push-line.new.out) c.uses-purpose-items.result.now c.loop-index.index c.loop-index.invariant c.in-ok-push-line.ensures
+    rooms_more (string_bytes c.args.out.now) (string_bytes c.loop-index.out) (string_bytes c.push_line.new.out) c.uses-purpose-items.result.now c.loop-index.index c.loop-index.invariant c.in_ok-push_line.ensures
 
 pub returns : goal.returns
 returns c =

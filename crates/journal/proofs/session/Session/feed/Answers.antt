@@ -3,7 +3,7 @@ use Rattle.std.proofs.Common.{ℕ, [], ◌∷◌, get_or, string_bytes, sym, ref
 use Rattle.journal.specs.Sessions.{Fed}
 use Rattle.journal.proofs.Feeding.{fed_all, fed_more, fed_none, fed_one}
 use Rattle.journal.proofs.session.Session.feed.Goals as goal
-use Rattle.journal.proofs.session.Session.feed.Goals.{then-byte-eq10+in-ok-end-line, else-byte-eq10}
+use Rattle.journal.proofs.session.Session.feed.Goals.{then-byte-eq10+in_ok-end_line, else-byte-eq10}
 
 pub loop-byte-init : goal.loop-byte-init
 loop-byte-init c = fed_none c.args.self.now (string_bytes c.args.out.now)
@@ -17,12 +17,12 @@ loop-byte-preserved c =
     let o = string_bytes c.args.out.now in
     let p = string_bytes c.loop-byte.out in
     elim c.if-byte-eq10.branch [
-      | then-byte-eq10+in-ok-end-line w ↦
-          rw (w.self-is, w.out_is)
-          (fed_more j k w.end-line.new.self bytes i o p (string_bytes w.end-line.new.out) (omega arith) c.loop-byte.invariant
-          (subst (λ (b : ℕ). Fed k w.end-line.new.self (b ∷ []) p (string_bytes w.end-line.new.out)) (sym w.if-byte-eq10.true) w.in-ok-end-line.ensures))
+      | then-byte-eq10+in_ok-end_line w ↦
+          rw (w.self-is, w.out-is)
+          (fed_more j k w.end_line.new.self bytes i o p (string_bytes w.end_line.new.out) (omega arith) c.loop-byte.invariant
+          (subst (λ (b : ℕ). Fed k w.end_line.new.self (b ∷ []) p (string_bytes w.end_line.new.out)) (sym w.if-byte-eq10.true) w.in_ok-end_line.ensures))
       | else-byte-eq10 w ↦
-          rw (w.self-is, w.out_is)
+          rw (w.self-is, w.out-is)
           (fed_more j k (record { board = k.board; tally = k.tally; line = w.push.new.self }) bytes i o p p (omega arith) c.loop-byte.invariant
           (fed_one k _ (get_or bytes i 0) p w.if-byte-eq10.false refl refl (search rules)))
     ]

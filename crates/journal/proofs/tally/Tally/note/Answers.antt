@@ -9,8 +9,8 @@ returns-in-Accepted c rs h =
     let e = c.in-Accepted.is in
     let r = c.args.reply in
     record {
-      calls = count_more is_call rs r _ _ (ap is_call e) h.calls c.saturating-add-self.ensures;
-      accepted = count_more is_accepted rs r _ _ (ap is_accepted e) h.accepted c.saturating-add-self-in-Accepted.ensures;
+      calls = count_more is_call rs r _ _ (ap is_call e) h.calls c.saturating_add-self.ensures;
+      accepted = count_more is_accepted rs r _ _ (ap is_accepted e) h.accepted c.saturating_add-self-in-Accepted.ensures;
       refused = count_same is_refused rs r _ (ap is_refused e) h.refused;
       unreadable = count_same is_unreadable rs r _ (ap is_unreadable e) h.unreadable;
     }
@@ -20,9 +20,9 @@ returns-in-Refused c rs h =
     let e = c.in-Refused.is in
     let r = c.args.reply in
     record {
-      calls = count_more is_call rs r _ _ (ap is_call e) h.calls c.saturating-add-self-in-Refused.ensures;
+      calls = count_more is_call rs r _ _ (ap is_call e) h.calls c.saturating_add-self-in-Refused.ensures;
       accepted = count_same is_accepted rs r _ (ap is_accepted e) h.accepted;
-      refused = count_more is_refused rs r _ _ (ap is_refused e) h.refused c.saturating-add-self-in-Refused-2.ensures;
+      refused = count_more is_refused rs r _ _ (ap is_refused e) h.refused c.saturating_add-self-in-Refused-2.ensures;
       unreadable = count_same is_unreadable rs r _ (ap is_unreadable e) h.unreadable;
     }
 
@@ -34,5 +34,5 @@ returns-in-Unreadable c rs h =
       calls = count_same is_call rs r _ (ap is_call e) h.calls;
       accepted = count_same is_accepted rs r _ (ap is_accepted e) h.accepted;
       refused = count_same is_refused rs r _ (ap is_refused e) h.refused;
-      unreadable = count_more is_unreadable rs r _ _ (ap is_unreadable e) h.unreadable c.saturating-add-self-in-Unreadable.ensures;
+      unreadable = count_more is_unreadable rs r _ _ (ap is_unreadable e) h.unreadable c.saturating_add-self-in-Unreadable.ensures;
     }
