@@ -1,6 +1,6 @@
 -- The two models: millimetres, and lengths that count the partitions they cross.
 use Rattle.std.specs.Prelude.{◌≡◌, ℕ, ◌+◌, ◌-◌, ◌*◌, ◌^◌, ◌<◌, ◌≤◌, min, ◌⊎◌}
-use Rattle.std.proofs.Common.{arith}
+use Rattle.std.proofs.Math.Nat.{add-le-add, le_refl, min-le_right}
 use Rattle.measure.specs.Models.{Model}
 use Rattle.measure.specs.declared.lengths.Millimetres.{Millimetres}
 use Rattle.measure.specs.declared.lengths.PartitionLength.{PartitionLength}
@@ -14,7 +14,7 @@ figure_of x = x.figure
 
 -- so many millimetres as a value. A figure past 2^30, where there is none, is cut; no book has one.
 abbrev pub mm : ℕ → Millimetres
-mm n = record { figure = min n (2 ^ 30); small = omega arith }
+mm n = record { figure = min n (2 ^ 30); small = min-le_right n (2 ^ 30) }
 
 -- millimetres in the clear, and partitions crossed
 pub record Crossing : Type 0 where
@@ -44,4 +44,4 @@ crossing_of x = crossing x.clear x.partitions
 
 -- the same length with a partition on top. Past 2^30 - 100 mm, where there is none, it is cut; no book has such a length.
 abbrev pub partitioned : Millimetres → PartitionLength
-partitioned x = record { clear = min x.figure (2 ^ 30 - 100); partitions = 1; small = omega arith }
+partitioned x = record { clear = min x.figure (2 ^ 30 - 100); partitions = 1; small = add-le-add (min-le_right x.figure (2 ^ 30 - 100)) (le_refl 100) }

@@ -1,8 +1,8 @@
 // The flat book.
-ghost use Rattle.std.specs.Prelude.{◌≡◌, Ok, Err};
+ghost use Rattle.std.specs.Prelude.{◌≡◌, Ok, Err, refl};
 ghost use Rattle.measure.specs.Books.{FlatMade, Sized, flat};
+ghost use Rattle.measure.specs.Tables.{flat_lawful};
 ghost use Rattle.fault.specs.declared.Fault.TheVariants.{OutOfRange};
-ghost use Rattle.std.proofs.Common.{rules, arith};
 
 use crate::Measure;
 use crate::book::{Book, Size};
@@ -36,9 +36,9 @@ impl Book for FlatBook {
 
     ghost table = { flat };
 
-    ghost lawful = { first_of (Prim.search rules, Prim.grind (arith, Self.row.coded.inj)) };
+    ghost lawful = { λ b u h. flat_lawful b u };
 
-    ghost unused = { first_of (Prim.search rules, Prim.grind (arith, Self.row.coded.inj)) };
+    ghost unused = { λ b. refl };
 
     fn lookup(&self, purpose: u8) -> Option<Size<Millimetres>> {
         if purpose == 0 {

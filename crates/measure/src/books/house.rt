@@ -2,7 +2,6 @@
 ghost use Rattle.std.specs.Prelude.{◌≡◌, ◌≤◌, refl};
 ghost use Rattle.measure.specs.Books.{by, house, listed};
 ghost use Rattle.measure.specs.Rows.{rows_lawful};
-ghost use Rattle.std.proofs.Common.{rules};
 
 use crate::book::{Book, Size};
 use crate::books::HouseBook;
@@ -27,7 +26,7 @@ impl Book for HouseBook {
 
     ghost lawful = { λ b u h. rows_lawful house refl u };
 
-    ghost unused = { Prim.search rules };
+    ghost unused = { λ b. refl };
 
     fn lookup(&self, purpose: u8) -> Option<Size<Millimetres>> {
         match purpose {

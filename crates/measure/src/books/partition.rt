@@ -2,7 +2,7 @@
 ghost use Rattle.std.specs.Prelude.{◌≡◌, ◌≤◌};
 ghost use Rattle.measure.specs.Books.{Lawful, Partitioned, with_partitions};
 ghost use Rattle.measure.specs.Lengths.{crossing_of, crossings, partitioned};
-ghost use Rattle.std.proofs.Common.{rules};
+ghost use Rattle.measure.specs.Tables.{with_partitions_lawful, with_partitions_unused};
 
 use crate::book::{Book, Size};
 use crate::books::PartitionBook;
@@ -24,9 +24,9 @@ impl<B: Book<M = Millimetres>> Book for PartitionBook<B> {
 
     ghost table = { λ b. with_partitions (B.Book.table b.below) };
 
-    ghost lawful = { Prim.search rules };
+    ghost lawful = { λ b u h. with_partitions_lawful (B.Book.table b.below) u (B.Book.lawful b.below u h) };
 
-    ghost unused = { Prim.search rules };
+    ghost unused = { λ b. with_partitions_unused (B.Book.table b.below) (B.Book.unused b.below) };
 
     fn lookup(&self, purpose: u8) -> Option<Size<PartitionLength>>
         ensures says { result ≡ with_partitions (B.Book.table self.now.below) purpose }

@@ -1,9 +1,10 @@
 // Millimetres as a measure.
 ghost use Rattle.measure.specs.Replies.{Made};
 ghost use Rattle.measure.specs.Lengths.{millimetres, figure_of};
+ghost use Rattle.measure.specs.Measures.{millimetres_lawful};
 ghost use Rattle.measure.specs.Texts.{millimetres_text};
 ghost use Rattle.std.specs.Prelude.{Some};
-ghost use Rattle.std.proofs.Common.{rules, arith};
+ghost use Rattle.std.proofs.Common.{lit≤};
 
 use crate::lengths::Millimetres;
 use crate::{GREATEST_EXTENT, Measure};
@@ -32,11 +33,11 @@ impl Measure for Millimetres {
 
     ghost greatest = { 60000 };
 
-    ghost lawful = { first_of (Prim.search rules, Prim.grind (arith, Self.row.coded.inj)) };
+    ghost lawful = { millimetres_lawful };
 
-    ghost bounded = { first_of (Prim.search rules, Prim.grind (arith, Self.row.coded.inj)) };
+    ghost bounded = { λ x. x.small };
 
-    ghost moderate = { first_of (Prim.search rules, Prim.grind (arith, Self.row.coded.inj)) };
+    ghost moderate = { lit≤ tt };
 
     fn step_limit() -> u32 {
         Self::GREATEST_STEP

@@ -2,8 +2,9 @@
 ghost use Rattle.std.specs.Prelude.{◌≡◌, ◌+◌, ◌*◌, Some};
 ghost use Rattle.measure.specs.Replies.{Made};
 ghost use Rattle.measure.specs.Lengths.{crossing, crossings, crossing_of};
+ghost use Rattle.measure.specs.Measures.{crossings_lawful};
 ghost use Rattle.measure.specs.Texts.{partition_text};
-ghost use Rattle.std.proofs.Common.{rules, arith};
+ghost use Rattle.std.proofs.Common.{lit≤};
 
 use crate::lengths::PartitionLength;
 use crate::{GREATEST_EXTENT, Measure};
@@ -56,11 +57,11 @@ impl Measure for PartitionLength {
 
     ghost greatest = { 60100 };
 
-    ghost lawful = { first_of (Prim.search rules, Prim.grind (arith, Self.row.coded.inj)) };
+    ghost lawful = { crossings_lawful };
 
-    ghost bounded = { first_of (Prim.search rules, Prim.grind (arith, Self.row.coded.inj)) };
+    ghost bounded = { λ x. x.small };
 
-    ghost moderate = { first_of (Prim.search rules, Prim.grind (arith, Self.row.coded.inj)) };
+    ghost moderate = { lit≤ tt };
 
     fn step_limit() -> u32 {
         Self::GREATEST_STEP
