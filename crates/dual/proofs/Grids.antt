@@ -1,13 +1,7 @@
 -- What a plan says of its rooms stays true when it is turned over its diagonal or reflected, so a lemma on one side or corner serves all four.
-use Rattle.std.proofs.Common.{◌≡◌, ℕ, suc, ◌<◌, ◌⊎◌, ◌↔◌, length, sym, refl, ap, ◌∙◌, inl, inr, arith}
-use Rattle.measure.specs.Models.{Model, Laws}
-use Rattle.measure.proofs.Orders.{greater, greater_bounds, greater_is, greater_within, lesser, lesser_bounds, lesser_is, lesser_within, plain, strict}
-use Rattle.sheet.specs.Sheets.{Sheet}
-use Rattle.sheet.specs.declared.pair.Direction.{Direction}
-use Rattle.sheet.specs.declared.pair.Direction.TheVariants.{Beside, Above}
-use Rattle.dual.specs.Marks.{Room, Marked, turn}
-use Rattle.dual.specs.Plans.{Dual, Line, Plan, SharedWall, line}
-use Rattle.dual.proofs.Intervals.{Order, Lt, Rev, eq_le, eq_ge, lt_le, lt_le_lt, le_lt_lt, order, reverse}
+use Rattle.std.proofs.Common.{◌≡◌, ℕ, ◌<◌, ◌↔◌, sym}
+use Rattle.dual.specs.Plans.{Line}
+use Rattle.dual.proofs.Intervals.{Order, Lt, Rev, reverse}
 use Rattle.dual.proofs.Rows.{climb}
 
 -- ---- one direction, under any order

@@ -5,12 +5,10 @@ use Rattle.measure.specs.Models.{Model}
 use Rattle.sheet.specs.Sheets.{Sheet}
 use Rattle.sheet.specs.Sound.{Sound}
 use Rattle.sheet.specs.declared.pair.Direction.{Direction}
-use Rattle.dual.specs.Corners.{CornersClosed}
-use Rattle.dual.specs.Listings.{InOrder}
-use Rattle.dual.specs.Marks.{Room, OnSide, Empty, along}
+use Rattle.dual.specs.Marks.{OnSide, Empty, along}
 use Rattle.dual.specs.Plans.{Dual, Inside, Keeps, Lengths, Plan, edge_at, line, stands}
 use Rattle.dual.specs.Walls.{Face, SameWall}
-use Rattle.dual.specs.Ways.{LeastPosition, Step, Unlooped, Way, position, total}
+use Rattle.dual.specs.Ways.{LeastPosition, Step, Way, position, total}
 
 -- a side of a room is empty exactly when it stands at the edge of the plan; otherwise, at every height within the room, a room on that side is there
 pub record Neighboured (m : Model) (s : Sheet) (p : Plan m) (side : Side) (r : ℕ) : Type 0 where
