@@ -24,6 +24,7 @@ pub trait Book {
         ensures says { result ≡ table self.now purpose }
         ensures lawful { Lawful Self.M.Measure.model Self.M.Measure.greatest Self.M.Measure.means result };
 
+    // What each `impl` must prove.
     ghost lawful: { (b : Self) (u : ℕ) → u ≤ 255 → Lawful Self.M.Measure.model Self.M.Measure.greatest Self.M.Measure.means (table b u) };
 
     // 0 is no use

@@ -47,6 +47,7 @@ pub trait Measure: Copy {
     fn extent(self) -> u32
         ensures { result ≡ model.extent (means self) };
 
+    // What each `impl` must prove.
     ghost lawful: { Laws model };
 
     ghost bounded: { (x : Self) → model.extent (means x) ≤ 2 ^ 30 };
