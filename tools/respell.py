@@ -2,7 +2,9 @@
 """Brings the repository's own definitions and lemmas to the spelling of today's Rattle: usage, once, at the top, after the kit's port.py: tools/respell.py
 
 Words get snake case (use-of: use_of), facts and other types camel case (Smallest-told: SmallestTold), wherever they stand in specs/, proofs/, clauses and, in backticks, the pages.
-Not renamed: what the prover names (the goals of Answers.antt and Invariants.antt, and the steps and fields that they cite), the library's names, functions of src/, strings, comments of code."""
+Beyond the spelling: `first-of` is a tactic's name today and becomes `first_told`, and two of the library's words get their own names in place of an alias.
+Not renamed: the goals of Answers.antt and Invariants.antt, the library's names, functions of src/, strings, comments of code. A step or field that the prover names is taken along
+where it is spelled as a name of the repository's own: one was (`out-is`), and was mended by hand. An alias of an import is not seen."""
 
 import collections
 import glob

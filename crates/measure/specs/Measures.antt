@@ -1,8 +1,8 @@
 -- Both models keep the laws of a measure.
 use Rattle.std.specs.Prelude.{◌≡◌, ℕ, ◌+◌, ◌*◌, ◌<◌, ◌⊎◌, refl}
 use Rattle.std.proofs.Common.{sym, ap, ap₂, ◌∙◌, subst, subst₂, inl, inr, ⊎_elim}
-use Rattle.std.proofs.Math.Arith.{add-le_cancel_left, add-lt_cancel_left}
-use Rattle.std.proofs.Math.Nat.{zero-add, add-zero, add_assoc, add_left_comm, mul-add, add_left_cancel, add_right_cancel, add-le-add_iff_right, add-lt-add_iff_right, le_refl, le_trans, le_antisymm, le_of_lt, lt_trans, lt_irrefl, eq-or-lt_of_le}
+use Rattle.std.proofs.Math.Arith.{add-le_cancel_left}
+use Rattle.std.proofs.Math.Nat.{zero-add, add-zero, add_assoc, add_comm, add_left_comm, mul-add, add_right_cancel, add-le-add_iff_right, add-lt-add_iff_right, le_refl, le_trans, le_antisymm, le_of_lt, lt_trans, lt_irrefl, eq-or-lt_of_le}
 use Rattle.std.proofs.lemmas.Bool.{cases_lt}
 use Rattle.measure.specs.Models.{Laws}
 use Rattle.measure.specs.Lengths.{millimetres, Crossing, crossing, distance, NoFarther, joined, crossings}
@@ -62,10 +62,11 @@ drop_last x y z (inl a) = inl ((add-lt-add_iff_right (distance z)).0 (subst₂ (
 drop_last x y z (inr h) =
     inr (add_right_cancel (distance z) (sym (distance_joined x z) ∙ (h.0 ∙ distance_joined y z)), (add-le-add_iff_right z.partitions).0 h.1)
 
+joined_comm : (x y : Crossing) → joined x y ≡ joined y x
+joined_comm x y = ap₂ crossing (add_comm x.clear y.clear) (add_comm x.partitions y.partitions)
+
 drop_first : (x y z : Crossing) → NoFarther (joined z x) (joined z y) → NoFarther x y
-drop_first x y z (inl a) = inl (add-lt_cancel_left (distance z) (subst₂ (λ m n. m < n) (distance_joined z x) (distance_joined z y) a))
-drop_first x y z (inr h) =
-    inr (add_left_cancel (distance z) (sym (distance_joined z x) ∙ (h.0 ∙ distance_joined z y)), add-le_cancel_left z.partitions h.1)
+drop_first x y z a = drop_last x y z (subst₂ NoFarther (joined_comm z x) (joined_comm z y) a)
 
 pub crossings_lawful : Laws crossings
 crossings_lawful = record {
