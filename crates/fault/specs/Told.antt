@@ -1,5 +1,5 @@
 -- What each refusal tells: its number, the room that it names, and the spot that it names.
-use Rattle.std.specs.Prelude.{ℕ}
+use Rattle.std.specs.Prelude.{ℕ, List, ◌++◌, codes, decimal}
 use Rattle.fault.specs.declared.Side.{Side}
 use Rattle.fault.specs.declared.Side.TheVariants.{North, East, South, West}
 use Rattle.fault.specs.declared.Corner.{Corner}
@@ -50,3 +50,7 @@ told (NotClosed room corner) = row 12 room (corner_number corner)
 told (Looped room axis) = row 13 room (axis_number axis)
 told TooWide = row 14 0 0
 told TooDeep = row 15 0 0
+
+-- `fault N R S`
+abbrev pub fault_text : Fault → List ℕ
+fault_text f = codes "fault " ++ (decimal (told f).number ++ (codes " " ++ (decimal (told f).room ++ (codes " " ++ decimal (told f).spot))))

@@ -1,8 +1,11 @@
 // The one fault type of the engine: why a call is refused, and what the refusal names.
 #![tactic(auto)]
 
-ghost use Rattle.std.specs.Prelude.{◌≡◌};
-ghost use Rattle.fault.specs.Told.{told};
+ghost use Rattle.std.specs.Prelude.{◌≡◌, Some};
+ghost use Rattle.fault.specs.Told.{fault_text, told};
+
+use std::error::Error;
+use std::fmt;
 
 // A side of a room, or an edge of the plan.
 #[derive(Clone, Copy, PartialEq, Eq, Debug)]
@@ -113,6 +116,17 @@ impl Fault {
         }
     }
 }
+
+// The line that tells it.
+impl fmt::Display for Fault {
+    ghost output = { λ f. Some (fault_text f) };
+
+    fn fmt<W: fmt::Write>(&self, f: &mut fmt::Formatter<W>) -> fmt::Result {
+        write!(f, "fault {} {} {}", self.number(), self.room(), self.spot())
+    }
+}
+
+impl Error for Fault {}
 
 #[cfg(test)]
 mod tests;

@@ -1,6 +1,7 @@
 // What each refusal tells.
 use crate::{Axis, Corner, Fault, Side};
 use std::process::Abort;
+use std::test::Fail;
 
 // A refusal's number, room and spot.
 fn tells(rt: &impl Abort, fault: Fault, told: [u8; 3]) {
@@ -67,4 +68,19 @@ fn each_spot_has_its_number(rt: HostRuntime) {
     for (axis, spot) in [(Axis::Across, 0), (Axis::Down, 1)] {
         tells(&rt, Fault::Looped { room, axis }, [13, room, spot]);
     }
+}
+
+#[test]
+fn a_fault_is_written_as_its_line(rt: HostRuntime) -> Result<(), Fail> {
+    let side = Side::West;
+    let rows = [
+        (Fault::WrongKind, "fault 1 0 0"),
+        (Fault::UnknownUse { room: 200 }, "fault 9 200 0"),
+        (Fault::NotInOrder { room: 0, side }, "fault 11 0 3"),
+        (Fault::TooDeep, "fault 15 0 0"),
+    ];
+    for (fault, text) in rows {
+        assert_eq!(rt; fault.to_string(rt.alloc())?.as_str(), text);
+    }
+    Ok(())
 }
