@@ -57,9 +57,9 @@ smallest_told s e r h = go r (subst (ToldFirst (refusals s e)) (sym h) (first_is
 abbrev pair : Direction → ℕ → ℕ → Pair
 pair d a b = record { direction = d; first = a; second = b }
 
-pub says_pair : (p : Pair) → p.first < 2 ^ 8 → p.second < 2 ^ 8 → SaysPair (word_of p) p
+pub says_pair : (p : Pair) (w : ℕ) → w ≡ word_of p → p.first < 2 ^ 8 → p.second < 2 ^ 8 → SaysPair w p
 unfolding is_pair pair_in
-says_pair p h k = go p.direction p.first p.second h k
+says_pair p w e h k = subst (λ (v : ℕ). SaysPair v p) (sym e) (go p.direction p.first p.second h k)
   where
     go : (d : Direction) (a b : ℕ) → a < 2 ^ 8 → b < 2 ^ 8 → SaysPair (word_of (pair d a b)) (pair d a b)
     go Beside a b h k = record { pair_word = grind (arith, nat_tests); bits_between = omega arith; fields = grind (arith, nat_tests) }

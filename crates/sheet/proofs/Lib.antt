@@ -1,9 +1,10 @@
-pub mod Fronts
 pub mod Keeping
 pub mod Laws
 pub mod Pairs
+pub mod Places
 pub mod Props
 pub mod Replies
 pub mod Rules
 pub mod Shifts
 pub mod Ways
+pub mod WordKinds

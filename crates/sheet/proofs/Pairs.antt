@@ -1,10 +1,10 @@
 -- In a list where no two pairs join the same rooms, taking out one pair leaves the others in their order, and still no two join the same rooms.
 use Rattle.std.proofs.Common.{◌≡◌, ℕ, zero, suc, ◌<◌, ◌≤◌, Bool, true, false, cond, not, ◌⊎◌, List, [], ◌∷◌, ◌++◌, length, get_or, Some, None, filter, sym, refl, ap, ◌∙◌, inl, inr, ⊎_elim, arith, lit≤}
-use Rattle.std.specs.List.{slice_get, remove}
+use Rattle.std.specs.List.{list_any, slice_get, remove}
 use Rattle.std.proofs.lemmas.Option.{slice_get-get_or}
 use Rattle.std.proofs.lemmas.Bool.{both_ways, cases_Bool, cond_both, not_from_false, or_parts}
 use Rattle.std.proofs.lemmas.Bool.Decides.{nat_tests}
-use Rattle.sheet.specs.Sheets.{any, same_pair, same_rooms}
+use Rattle.sheet.specs.Sheets.{same_pair, same_rooms}
 use Rattle.sheet.specs.declared.pair.Pair.{Pair}
 
 -- no two join the same two rooms
@@ -31,10 +31,10 @@ module _ {X : Type 0} where
   nth_push (z ∷ zs) x zero y e = inl e
   nth_push (z ∷ zs) x (suc i) y e = ⊎_elim (λ h. inl h) (λ h. inr (ap suc h.0, h.1)) (nth_push zs x i y e)
 
-  pub any_false : (t : X → Bool) (xs : List X) (i : ℕ) (x : X) → any t xs ≡ false → slice_get xs i ≡ Some x → t x ≡ false
+  pub any_false : (t : X → Bool) (xs : List X) (i : ℕ) (x : X) → list_any t xs ≡ false → slice_get xs i ≡ Some x → t x ≡ false
   any_false t [] i x h e = none_some x e
-  any_false t (y ∷ ys) zero x h e = ap t (sym (same_some y x e)) ∙ (or_parts (t y) (any t ys) h).0
-  any_false t (y ∷ ys) (suc i) x h e = any_false t ys i x (or_parts (t y) (any t ys) h).1 e
+  any_false t (y ∷ ys) zero x h e = ap t (sym (same_some y x e)) ∙ (or_parts (t y) (list_any t ys) h).0
+  any_false t (y ∷ ys) (suc i) x h e = any_false t ys i x (or_parts (t y) (list_any t ys) h).1 e
 
   -- what a filter keeps was there
   pub kept_from : (t : X → Bool) (xs : List X) (i : ℕ) (x : X) → slice_get (filter t xs) i ≡ Some x → (k : ℕ) × (slice_get xs k ≡ Some x)
@@ -80,7 +80,7 @@ apart_kept t (p ∷ ps) h =
     cond_both (t p) (p ∷ filter t ps) (filter t ps) (λ (l : List Pair). Apart l)
     (λ _. apart_cons p (filter t ps) (λ j q e k. let m = kept_from t ps j q e in apart_head p ps h m.0 q m.1 k) more) (λ _. more)
 
-pub apart_push : (ps : List Pair) (p : Pair) → Apart ps → any (same_rooms p) ps ≡ false → Apart (ps ++ p ∷ [])
+pub apart_push : (ps : List Pair) (p : Pair) → Apart ps → list_any (same_rooms p) ps ≡ false → Apart (ps ++ p ∷ [])
 apart_push ps p h n i j q r e f k =
     ⊎_elim
     (λ a. ⊎_elim (λ b. h i j q r a b k)

@@ -1,6 +1,6 @@
 -- The sheet: the uses of the held rooms, room 1 first, and the held pairs in their order.
 use Rattle.std.specs.Prelude.{ℕ, zero, suc, Bool, true, false, not, ◌&&◌, ◌||◌, List, [], ◌∷◌, ◌++◌, None, filter, Option, ◌==◌, nat_le}
-use Rattle.std.specs.List.{slice_get}
+use Rattle.std.specs.List.{list_any, slice_get}
 use Rattle.sheet.specs.declared.pair.Direction.{Direction}
 use Rattle.sheet.specs.declared.pair.Direction.TheVariants.{Beside, Above}
 use Rattle.sheet.specs.declared.pair.Pair.{Pair}
@@ -31,18 +31,13 @@ same_pair p q = same_direction p.direction q.direction && (p.first == q.first &&
 abbrev pub same_rooms : Pair → Pair → Bool
 same_rooms p q = (p.first == q.first && p.second == q.second) || (p.first == q.second && p.second == q.first)
 
--- some element passes the test
-abbrev pub any : {X : Type 0} → (X → Bool) → List X → Bool
-any test [] = false
-any test (x ∷ xs) = test x || any test xs
-
 -- the two rooms have a mark
 abbrev pub joined : Sheet → Pair → Bool
-joined s p = any (same_rooms p) s.pairs
+joined s p = list_any (same_rooms p) s.pairs
 
 -- this very pair is held
 abbrev pub holds : Sheet → Pair → Bool
-holds s p = any (same_pair p) s.pairs
+holds s p = list_any (same_pair p) s.pairs
 
 -- one room more, at the end
 abbrev pub with_room : Sheet → ℕ → Sheet

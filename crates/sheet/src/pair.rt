@@ -1,18 +1,20 @@
 // Two rooms that touch, and which of them lies west or north.
 ghost use Rattle.std.specs.Prelude.{◌≡◌};
+ghost use Rattle.std.specs.List.{list_any, position};
 ghost use Rattle.sheet.specs.Sheets.{same_pair, same_rooms};
 ghost use Rattle.sheet.specs.Laws.{SaysPair};
 ghost use Rattle.sheet.specs.Words.{word_of};
 
+// Its number is the kind of the words that say such a pair.
 #[derive(Clone, Copy, PartialEq, Eq, Debug)]
 pub enum Direction {
     // the first room lies west of the second
-    Beside,
+    Beside = 2,
     // the first room lies north of the second
-    Above,
+    Above = 3,
 }
 
-#[derive(Clone, Copy, Debug)]
+#[derive(Clone, Copy, PartialEq, Eq, Debug)]
 pub struct Pair {
     pub direction: Direction,
     pub first: u8,
@@ -28,13 +30,18 @@ impl Pair {
             || (self.first == other.second && self.second == other.first)
     }
 
-    // Whether both are the same mark of the same rooms.
-    pub fn is_same(self, other: Pair) -> bool
-        ensures { result ≡ same_pair self other }
+    // Whether one of these pairs joins the same two rooms.
+    pub(crate) fn is_joined_among(self, held: &[Pair]) -> bool
+        ensures { result ≡ list_any (same_rooms self) held.now }
     {
-        self.direction == other.direction
-            && self.first == other.first
-            && self.second == other.second
+        held.iter().any(|other| self.joins_same_rooms(*other))
+    }
+
+    // Where it stands among these pairs.
+    pub(crate) fn place_among(self, held: &[Pair]) -> Option<usize>
+        ensures { result ≡ position (same_pair self) held.now }
+    {
+        held.iter().position(|other| self == *other)
     }
 
     // The word that enters this pair, and strikes it: it says this pair and no other.
@@ -42,10 +49,6 @@ impl Pair {
         ensures value { result ≡ word_of self }
         ensures says { SaysPair result self }
     {
-        let kind: u32 = match self.direction {
-            Direction::Beside => 2,
-            Direction::Above => 3,
-        };
-        (kind << 28) + u32::from(self.first) * 256 + u32::from(self.second)
+        ((self.direction as u32) << 28) + u32::from(self.first) * 256 + u32::from(self.second)
     }
 }

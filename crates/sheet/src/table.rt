@@ -1,9 +1,9 @@
 // The arrays of a board: the uses of its rooms and its pairs, each with how many there are.
 // No other crate sees the table. What its methods require is what the board's invariant says.
-ghost use Rattle.std.specs.Prelude.{◌≡◌, ◌+◌, ◌<◌, ◌≤◌, false, Some, MatchOption};
+ghost use Rattle.std.specs.Prelude.{◌≡◌, ◌+◌, ◌<◌, ◌≤◌, Some};
 ghost use Rattle.std.specs.List.{slice_get, remove};
-ghost use Rattle.sheet.specs.Sheets.{empty, holds, joined, use_of, with_pair, with_room};
-ghost use Rattle.sheet.specs.Tables.{Place, sheet_in, with_pairs};
+ghost use Rattle.sheet.specs.Sheets.{empty, with_pair, with_room};
+ghost use Rattle.sheet.specs.Tables.{sheet_in, with_pairs};
 
 use crate::pair::{Direction, Pair};
 
@@ -60,34 +60,6 @@ impl Table {
         self.marks += 1;
     }
 
-    // Whether a held pair joins the same two rooms.
-    pub fn is_joined(&self, pair: Pair) -> bool
-        requires { self.now.marks ≤ 600 }
-        ensures { result ≡ joined (sheet_in self.now) pair }
-    {
-        for i in 0..self.marks {
-            if pair.joins_same_rooms(self.pairs[i]) {
-                return true;
-            }
-        }
-        false
-    }
-
-    // Where the pair stands.
-    pub fn place(&self, pair: Pair) -> Option<usize>
-        requires { self.now.marks ≤ 600 }
-        ensures { MatchOption result
-            (holds (sheet_in self.now) pair ≡ false)
-            (Place (sheet_in self.now).pairs pair) }
-    {
-        for i in 0..self.marks {
-            if pair.is_same(self.pairs[i]) {
-                return Some(i);
-            }
-        }
-        None
-    }
-
     // Removes the pair at `at` and hands it out; the later ones move up.
     pub fn remove(&mut self, at: usize) -> Pair
         requires within { at < self.old.marks }
@@ -99,33 +71,8 @@ impl Table {
         ensures gone { Some result ≡ slice_get (sheet_in self.old).pairs at }
     {
         let gone = self.pairs[at];
-        for i in at..self.marks - 1 {
-            let next = self.pairs[i + 1];
-            self.pairs[i] = next;
-        }
+        self.pairs.copy_within(at + 1..self.marks, at);
         self.marks -= 1;
         gone
-    }
-
-    // The use of a room by its number.
-    pub fn use_of(&self, room: usize) -> Option<u8>
-        requires { self.now.rooms ≤ 200 }
-        ensures { result ≡ use_of (sheet_in self.now) room }
-    {
-        if room == 0 || room > self.rooms {
-            return None;
-        }
-        Some(self.uses[room - 1])
-    }
-
-    // The pair at a place, counted from 0.
-    pub fn pair(&self, index: usize) -> Option<Pair>
-        requires { self.now.marks ≤ 600 }
-        ensures { result ≡ slice_get (sheet_in self.now).pairs index }
-    {
-        if index >= self.marks {
-            return None;
-        }
-        Some(self.pairs[index])
     }
 }

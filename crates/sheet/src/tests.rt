@@ -31,11 +31,11 @@ fn furnished(rooms: u32) -> Result<Board, Fail> {
 fn holds(rt: &impl Abort, board: &Board, uses: &[u8], words: &[u32]) {
     assert_eq!(rt; board.rooms(), uses.len());
     assert_eq!(rt; board.pairs(), words.len());
-    for i in 0..uses.len() {
-        assert_eq!(rt; board.use_of(i + 1), Some(uses[i]));
+    for (i, purpose) in uses.iter().enumerate() {
+        assert_eq!(rt; board.use_of(i + 1), Some(*purpose));
     }
-    for i in 0..words.len() {
-        assert_eq!(rt; board.pair_word(i), Some(words[i]));
+    for (i, word) in words.iter().enumerate() {
+        assert_eq!(rt; board.pair_word(i), Some(*word));
     }
 }
 
@@ -302,6 +302,6 @@ fn pairs_are_told_apart(rt: HostRuntime) {
             second,
         };
         assert_eq!(rt; held.joins_same_rooms(pair), joins);
-        assert_eq!(rt; held.is_same(pair), same);
+        assert_eq!(rt; held == pair, same);
     }
 }

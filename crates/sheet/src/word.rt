@@ -1,71 +1,87 @@
 // Reading a word: its kind, then the ranges of its fields.
 ghost use Rattle.std.specs.Prelude.{◌≡◌, ◌%◌, MatchResult};
 ghost use Rattle.sheet.specs.Sheets.{held};
-ghost use Rattle.sheet.specs.Reads.{PairRead, PairUnread, Read, Unread};
+ghost use Rattle.sheet.specs.Reads.{Named, PairRead, PairUnread, Read, Unread};
 ghost use Rattle.sheet.specs.Words.{pair_fits, room_fits};
 
 use crate::pair::{Direction, Pair};
+use crate::table::Table;
 use fault::Fault;
 
 // What a word adds to a sheet.
-#[derive(Clone, Copy)]
+#[derive(Clone, Copy, PartialEq, Eq, Debug)]
 pub enum Entry {
     Room(u8),
     Touch(Pair),
 }
 
-fn is_held(room: u8, rooms: usize) -> bool
-    ensures { result ≡ held rooms room }
-{
-    room >= 1 && room as usize <= rooms
+// What kind of word it is.
+#[derive(Clone, Copy, PartialEq, Eq, Debug)]
+pub enum Kind {
+    RoomWord,
+    PairWord(Direction),
+}
+
+impl TryFrom<u32> for Kind {
+    type Error = Fault;
+
+    ghost try_from_gives = { Named };
+
+    fn try_from(number: u32) -> Result<Kind, Fault> {
+        match number {
+            1 => Ok(Kind::RoomWord),
+            2 => Ok(Kind::PairWord(Direction::Beside)),
+            3 => Ok(Kind::PairWord(Direction::Above)),
+            _ => Err(Fault::WrongKind),
+        }
+    }
 }
 
 fn room_in_range(word: u32) -> bool
     ensures { result ≡ room_fits word }
 {
-    let field = word % (1 << 28);
-    field >= 1 && field <= 255
+    (1..=255).contains(&(word % (1 << 28)))
 }
 
-fn pair_in_range(word: u32, rooms: usize) -> bool
-    ensures { result ≡ pair_fits rooms word }
-{
-    let field = word % (1 << 28);
-    if field >= 1 << 16 {
-        return false;
+// What words say to a table with the rooms that it has.
+impl Table {
+    fn is_held(&self, room: u8) -> bool
+        ensures { result ≡ held self.now.rooms room }
+    {
+        (1..=self.rooms).contains(&usize::from(room))
     }
-    is_held((word / 256 % 256) as u8, rooms) && is_held((word % 256) as u8, rooms)
-}
 
-// The pair that a word says, with so many rooms held.
-pub fn read_pair(word: u32, rooms: usize) -> Result<Pair, Fault>
-    ensures { MatchResult result (PairRead rooms word) (PairUnread rooms word) }
-{
-    let first = (word / 256 % 256) as u8;
-    let second = (word % 256) as u8;
-    match word >> 28 {
-        2 if pair_in_range(word, rooms) => Ok(Pair {
-            direction: Direction::Beside,
-            first,
-            second,
-        }),
-        3 if pair_in_range(word, rooms) => Ok(Pair {
-            direction: Direction::Above,
-            first,
-            second,
-        }),
-        2 | 3 => Err(Fault::OutOfRange),
-        _ => Err(Fault::WrongKind),
+    fn pair_in_range(&self, word: u32) -> bool
+        ensures { result ≡ pair_fits self.now.rooms word }
+    {
+        word % (1 << 28) < 1 << 16
+            && self.is_held((word / 256 % 256) as u8)
+            && self.is_held((word % 256) as u8)
     }
-}
 
-// The room or pair that a word says, with so many rooms held.
-pub fn read_entry(word: u32, rooms: usize) -> Result<Entry, Fault>
-    ensures { MatchResult result (Read rooms word) (Unread rooms word) }
-{
-    match word >> 28 {
-        1 if room_in_range(word) => Ok(Entry::Room((word % 256) as u8)),
-        1 => Err(Fault::OutOfRange),
-        _ => Ok(Entry::Touch(read_pair(word, rooms)?)),
+    // The pair that a word says.
+    pub fn read_pair(&self, word: u32) -> Result<Pair, Fault>
+        ensures { MatchResult result (PairRead self.now.rooms word) (PairUnread self.now.rooms word) }
+    {
+        match Kind::try_from(word >> 28)? {
+            Kind::PairWord(direction) if self.pair_in_range(word) => Ok(Pair {
+                direction,
+                first: (word / 256 % 256) as u8,
+                second: (word % 256) as u8,
+            }),
+            Kind::PairWord(_) => Err(Fault::OutOfRange),
+            Kind::RoomWord => Err(Fault::WrongKind),
+        }
+    }
+
+    // The room or pair that a word says.
+    pub fn read_entry(&self, word: u32) -> Result<Entry, Fault>
+        ensures { MatchResult result (Read self.now.rooms word) (Unread self.now.rooms word) }
+    {
+        match Kind::try_from(word >> 28)? {
+            Kind::RoomWord if room_in_range(word) => Ok(Entry::Room((word % 256) as u8)),
+            Kind::RoomWord => Err(Fault::OutOfRange),
+            Kind::PairWord(_) => Ok(Entry::Touch(self.read_pair(word)?)),
+        }
     }
 }

@@ -14,7 +14,7 @@ use crate::board::Board;
 use crate::edit::Edit;
 use crate::pair::Pair;
 use crate::table::{PAIRS, ROOMS, Table};
-use crate::word::{Entry, read_entry, read_pair};
+use crate::word::Entry;
 use fault::Fault;
 
 impl Board {
@@ -32,7 +32,7 @@ impl Board {
         ensures sheet { sheet_of self.new ≡ after (sheet_of self.old) (edit (Edit.Enter word)) }
         ensures reply { result ≡ judged (sheet_of self.old) (Edit.Enter word) }
     {
-        match read_entry(word, self.table.rooms)? {
+        match self.table.read_entry(word)? {
             Entry::Room(purpose) => self.enter_room(word, purpose),
             Entry::Touch(pair) => self.enter_pair(word, pair),
         }
@@ -63,7 +63,7 @@ impl Board {
         if pair.first == pair.second {
             return Err(Fault::SameRoom);
         }
-        if self.table.is_joined(pair) {
+        if pair.is_joined_among(self.pair_list()) {
             return Err(Fault::AlreadyJoined);
         }
         self.table.add_pair(pair);
@@ -75,10 +75,8 @@ impl Board {
         ensures sheet { sheet_of self.new ≡ after (sheet_of self.old) (edit (Edit.Strike word)) }
         ensures reply { result ≡ judged (sheet_of self.old) (Edit.Strike word) }
     {
-        let pair = read_pair(word, self.table.rooms)?;
-        let Some(at) = self.table.place(pair) else {
-            return Err(Fault::NotHeld);
-        };
+        let pair = self.table.read_pair(word)?;
+        let at = pair.place_among(self.pair_list()).ok_or(Fault::NotHeld)?;
         self.table.remove(at);
         Ok(())
     }
@@ -108,7 +106,7 @@ impl Board {
     pub fn use_of(&self, room: usize) -> Option<u8>
         ensures { result ≡ use_of (sheet_of self.now) room }
     {
-        self.table.use_of(room)
+        self.uses().get(room.checked_sub(1)?).copied()
     }
 
     // The uses of the held rooms, room 1 first.
@@ -137,14 +135,13 @@ impl Board {
     pub fn pair(&self, index: usize) -> Option<Pair>
         ensures { result ≡ slice_get (sheet_of self.now).pairs index }
     {
-        self.table.pair(index)
+        self.pair_list().get(index).copied()
     }
 
     // The word of the pair at a place, counted from 0.
     pub fn pair_word(&self, index: usize) -> Option<u32>
         ensures { result ≡ option_map word_of (slice_get (sheet_of self.now).pairs index) }
     {
-        let pair = self.table.pair(index)?;
-        Some(pair.word())
+        self.pair(index).map(Pair::word)
     }
 }
