@@ -18,20 +18,16 @@ pub const GREATEST_EXTENT: u32 = 1 << 30;
 
 // A measure: values that mean elements of a model. The model has more elements than there are values.
 pub trait Measure: Copy {
-    // No step's extent passes this. Generic code reads it through `step_limit`, whose contract says what it is.
+    // No step's extent passes this.
     const GREATEST_STEP: u32;
+
+    // the same, as contracts name it
+    ghost GREATEST_STEP: { ℕ };
 
     ghost model: { Model };
 
     // the element that a value means
     ghost means: { Self → model.Element };
-
-    // the greatest step, as contracts name it
-    ghost greatest: { ℕ };
-
-    // The greatest step.
-    fn step_limit() -> u32
-        ensures { result ≡ greatest };
 
     fn zero() -> Self
         ensures { means result ≡ model.zero };
@@ -52,5 +48,5 @@ pub trait Measure: Copy {
 
     ghost bounded: { (x : Self) → model.extent (means x) ≤ 2 ^ 30 };
 
-    ghost moderate: { greatest ≤ 1000000 };
+    ghost moderate: { GREATEST_STEP ≤ 1000000 };
 }

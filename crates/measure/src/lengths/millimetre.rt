@@ -27,21 +27,17 @@ impl Millimetres {
 impl Measure for Millimetres {
     const GREATEST_STEP: u32 = 60_000;
 
+    ghost GREATEST_STEP = { 60000 };
+
     ghost model = { millimetres };
 
     ghost means = { figure_of };
-
-    ghost greatest = { 60000 };
 
     ghost lawful = { millimetres_lawful };
 
     ghost bounded = { λ x. x.small };
 
     ghost moderate = { lit≤ tt };
-
-    fn step_limit() -> u32 {
-        Self::GREATEST_STEP
-    }
 
     fn zero() -> Millimetres {
         Millimetres { figure: 0 }

@@ -51,21 +51,17 @@ impl PartitionLength {
 impl Measure for PartitionLength {
     const GREATEST_STEP: u32 = 60_100;
 
+    ghost GREATEST_STEP = { 60100 };
+
     ghost model = { crossings };
 
     ghost means = { crossing_of };
-
-    ghost greatest = { 60100 };
 
     ghost lawful = { crossings_lawful };
 
     ghost bounded = { λ x. x.small };
 
     ghost moderate = { lit≤ tt };
-
-    fn step_limit() -> u32 {
-        Self::GREATEST_STEP
-    }
 
     fn zero() -> PartitionLength {
         PartitionLength {
