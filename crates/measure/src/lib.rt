@@ -17,7 +17,7 @@ mod tests;
 pub const GREATEST_EXTENT: u32 = 1 << 30;
 
 // A measure: values that mean elements of a model. The model has more elements than there are values.
-pub trait Measure: Copy {
+pub trait Measure: Copy + Ord {
     // No step's extent passes this.
     const GREATEST_STEP: u32;
 
@@ -37,8 +37,11 @@ pub trait Measure: Copy {
         ensures { Added model means self other result };
 
     // Whether this is below, equal to or above the other.
-    fn compare(self, other: Self) -> Ordering
-        ensures { Compared model means self other result };
+    final fn compare(self, other: Self) -> Ordering
+        ensures { Compared model means self other result }
+    {
+        self.cmp(&other)
+    }
 
     fn extent(self) -> u32
         ensures { result ≡ model.extent (means self) };
@@ -49,4 +52,7 @@ pub trait Measure: Copy {
     ghost bounded: { (x : Self) → model.extent (means x) ≤ 2 ^ 30 };
 
     ghost moderate: { GREATEST_STEP ≤ 1000000 };
+
+    // the order of values is the model's
+    ghost ordered: { (x y : Self) → Compared model means x y (Self.Ord.cmp x y) };
 }

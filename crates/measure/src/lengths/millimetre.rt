@@ -2,6 +2,7 @@
 ghost use Rattle.measure.specs.Replies.{Made};
 ghost use Rattle.measure.specs.Lengths.{millimetres, figure_of};
 ghost use Rattle.measure.specs.Measures.{millimetres_lawful};
+ghost use Rattle.measure.specs.Comparisons.{millimetres_ordered};
 ghost use Rattle.measure.specs.Texts.{millimetres_text};
 ghost use Rattle.std.specs.Prelude.{Some};
 ghost use Rattle.std.proofs.Common.{lit≤};
@@ -9,7 +10,6 @@ ghost use Rattle.std.proofs.Common.{lit≤};
 use crate::lengths::Millimetres;
 use crate::{GREATEST_EXTENT, Measure};
 use fault::Fault;
-use std::cmp::Ordering;
 use std::fmt;
 
 impl Millimetres {
@@ -39,6 +39,8 @@ impl Measure for Millimetres {
 
     ghost moderate = { lit≤ tt };
 
+    ghost ordered = { millimetres_ordered };
+
     fn zero() -> Millimetres {
         Millimetres { figure: 0 }
     }
@@ -49,10 +51,6 @@ impl Measure for Millimetres {
             return None;
         }
         Some(Millimetres { figure: sum })
-    }
-
-    fn compare(self, other: Millimetres) -> Ordering {
-        self.extent().cmp(&other.extent())
     }
 
     fn extent(self) -> u32 {
