@@ -1,6 +1,7 @@
 // The flat book.
 ghost use Rattle.std.specs.Prelude.{◌≡◌, Ok, Err, refl};
-ghost use Rattle.measure.specs.Books.{FlatMade, Sized, flat};
+ghost use Rattle.measure.specs.Books.{FlatMade, flat};
+ghost use Rattle.measure.specs.Lengths.{Sized};
 ghost use Rattle.measure.specs.Tables.{flat_lawful};
 ghost use Rattle.fault.specs.declared.Fault.TheVariants.{OutOfRange};
 
@@ -17,7 +18,9 @@ impl FlatBook {
     {
         let width = sized(width)?;
         let depth = sized(depth)?;
-        Ok(FlatBook { width, depth })
+        Ok(FlatBook {
+            size: Size { width, depth },
+        })
     }
 }
 
@@ -44,9 +47,6 @@ impl Book for FlatBook {
         if purpose == 0 {
             return None;
         }
-        Some(Size {
-            width: self.width,
-            depth: self.depth,
-        })
+        Some(self.size)
     }
 }
