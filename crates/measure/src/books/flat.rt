@@ -28,7 +28,7 @@ impl FlatBook {
 fn sized(figure: u32) -> Result<Millimetres, Fault>
     ensures { elim result [ Ok x ↦ (x.figure ≡ figure) × Sized figure | Err f ↦ (f ≡ OutOfRange) × (Sized figure → ⊥) ] }
 {
-    if figure < 1 || figure > Millimetres::GREATEST_STEP {
+    if !(1..=Millimetres::GREATEST_STEP).contains(&figure) {
         return Err(Fault::OutOfRange);
     }
     Ok(Millimetres { figure })
