@@ -1,5 +1,5 @@
 // The flat book.
-ghost use Rattle.std.specs.Prelude.{◌≡◌, Ok, Err, refl};
+ghost use Rattle.std.specs.Prelude.{◌≡◌, MatchResult, refl};
 ghost use Rattle.measure.specs.Books.{FlatMade, flat};
 ghost use Rattle.measure.specs.Lengths.{Sized};
 ghost use Rattle.measure.specs.Tables.{flat_lawful};
@@ -26,7 +26,7 @@ impl FlatBook {
 
 // A width or a depth, or out of range.
 fn sized(figure: u32) -> Result<Millimetres, Fault>
-    ensures { elim result [ Ok x ↦ (x.figure ≡ figure) × Sized figure | Err f ↦ (f ≡ OutOfRange) × (Sized figure → ⊥) ] }
+    ensures { MatchResult result (λ x. (x.figure ≡ figure) × Sized figure) (λ f. (f ≡ OutOfRange) × (Sized figure → ⊥)) }
 {
     if !(1..=Millimetres::GREATEST_STEP).contains(&figure) {
         return Err(Fault::OutOfRange);

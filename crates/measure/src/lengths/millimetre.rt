@@ -46,11 +46,7 @@ impl Measure for Millimetres {
     }
 
     fn add(self, other: Millimetres) -> Option<Millimetres> {
-        let sum = self.figure + other.figure;
-        if sum > GREATEST_EXTENT {
-            return None;
-        }
-        Some(Millimetres { figure: sum })
+        Millimetres::new(self.figure + other.figure).ok()
     }
 
     fn extent(self) -> u32 {

@@ -104,13 +104,9 @@ impl Measure for PartitionLength {
     }
 
     fn add(self, other: PartitionLength) -> Option<PartitionLength> {
-        if self.extent() + other.extent() > GREATEST_EXTENT {
-            return None;
-        }
-        Some(PartitionLength {
-            clear: self.clear + other.clear,
-            partitions: self.partitions + other.partitions,
-        })
+        let clear = self.clear + other.clear;
+        let partitions = self.partitions + other.partitions;
+        PartitionLength::new(clear, partitions).ok()
     }
 
     fn extent(self) -> u32 {
