@@ -1,5 +1,5 @@
 -- The order of a model, strict and plain. All of it follows from the laws, since the law that compares any two decides every comparison.
-use Rattle.std.proofs.Common.{◌≡◌, ℕ, ◌⊎◌, sym, refl, ap, ◌∙◌, subst, inl, inr, ⊎_elim, add_comm, arith}
+use Rattle.std.proofs.Common.{◌≡◌, ℕ, ◌⊎◌, sym, refl, ap, ap₂, ◌∙◌, subst, inl, inr, ⊎_elim, add_comm, arith}
 use Rattle.measure.specs.Models.{Model, Laws, Below}
 
 -- The two comparisons
@@ -73,10 +73,8 @@ module _ {m : Model} (laws : Laws m) where
   split x y (inr b) (inr a) ep eq = inl a
   split x y (inr b) (inl c) ep eq = inr (λ a.
       let same : x ≡ y = laws.antisymmetric x y a b in
-      let f : m.Element → m.Element → ℕ = λ u v. side (laws.total u v) in
-      let one : f x y ≡ f y x = ap (λ u. f u y) same ∙ ap (λ u. f y u) (sym same) in
-      let left : f x y ≡ 1 = ap side ep in
-      let right : f y x ≡ 0 = ap side eq in
+      let one : side (laws.total x y) ≡ side (laws.total y x) = ap₂ (λ u v. side (laws.total u v)) same (sym same) in
+      let apart : 1 ≡ 0 = sym (ap side ep) ∙ (one ∙ ap side eq) in
       omega arith)
 
   pub decided : (x y : m.Element) → m.at_most x y ⊎ Below m y x

@@ -1,10 +1,10 @@
 -- What a size book says: for each use nothing, or a width and a depth.
-use Rattle.std.specs.Prelude.{◌≡◌, ℕ, zero, suc, ◌≤◌, cond, List, [], ◌∷◌, Some, None, Ok, Err, Option, Result, ◌==◌}
+use Rattle.std.specs.Prelude.{◌≡◌, ℕ, zero, suc, cond, List, [], ◌∷◌, Some, None, Ok, Err, Option, Result, ◌==◌}
 use Rattle.std.specs.Option.{option_map}
 use Rattle.fault.specs.declared.Fault.{Fault}
 use Rattle.fault.specs.declared.Fault.TheVariants.{OutOfRange}
 use Rattle.measure.specs.Models.{Model, Step}
-use Rattle.measure.specs.Lengths.{crossing, crossing_of, mm, partitioned}
+use Rattle.measure.specs.Lengths.{Sized, crossing, crossing_of, mm, partitioned}
 use Rattle.measure.specs.declared.book.Size.{Size}
 use Rattle.measure.specs.declared.books.FlatBook.{FlatBook}
 use Rattle.measure.specs.declared.lengths.Millimetres.{Millimetres}
@@ -42,19 +42,15 @@ listed (r ∷ rs) u = cond (u == r.purpose) (Some (by r.width r.depth)) (listed 
 abbrev pub house : List Row
 house = row 1 1200 1200 ∷ row 2 2400 3000 ∷ row 3 3600 3600 ∷ row 4 1500 1800 ∷ row 5 1800 1200 ∷ row 6 2400 2400 ∷ []
 
--- a figure that a size in millimetres may have
-abbrev pub Sized : ℕ → Type 0
-Sized n = (1 ≤ n) × (n ≤ 60000)
-
 -- making a flat book: refused exactly when a figure is no size
 abbrev pub FlatMade : ℕ → ℕ → Result FlatBook Fault → Type 0
-FlatMade width depth (Ok b) = (b.width.figure ≡ width) × (b.depth.figure ≡ depth) × (Sized width × Sized depth)
+FlatMade width depth (Ok b) = (b.size.width.figure ≡ width) × (b.size.depth.figure ≡ depth) × (Sized width × Sized depth)
 FlatMade width depth (Err f) = (f ≡ OutOfRange) × (Sized width × Sized depth → ⊥)
 
 -- one size for every use; 0 is no use
 abbrev pub flat : FlatBook → ℕ → Option (Size Millimetres)
 flat b zero = None
-flat b (suc u) = Some (record { width = b.width; depth = b.depth })
+flat b (suc u) = Some b.size
 
 -- the same uses, with a partition on top of each size
 abbrev pub with_partitions : (ℕ → Option (Size Millimetres)) → ℕ → Option (Size PartitionLength)

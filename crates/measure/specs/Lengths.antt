@@ -16,6 +16,10 @@ figure_of x = x.figure
 abbrev pub mm : ℕ → Millimetres
 mm n = record { figure = min n (2 ^ 30); small = min-le_right n (2 ^ 30) }
 
+-- a figure that a size in millimetres may have
+abbrev pub Sized : ℕ → Type 0
+Sized n = (1 ≤ n) × (n ≤ 60000)
+
 -- millimetres in the clear, and partitions crossed
 pub record Crossing : Type 0 where
   pub clear : ℕ

@@ -6,3 +6,4 @@ pub mod Books
 pub mod Texts
 pub mod Tables
 pub mod Rows
+pub mod Comparisons

@@ -3,8 +3,8 @@ use Rattle.std.specs.Prelude.{◌≡◌, ℕ, ◌^◌, min, Bool, true, ◌&&◌
 use Rattle.std.proofs.Common.{lit≤}
 use Rattle.std.proofs.Math.Nat.{le-min, le_trans, min-le_left}
 use Rattle.std.proofs.lemmas.Bool.{and_parts, cond_both, leb-true}
-use Rattle.measure.specs.Books.{Fair, Lawful, Row, Sized, by, listed}
-use Rattle.measure.specs.Lengths.{figure_of, millimetres}
+use Rattle.measure.specs.Books.{Fair, Lawful, Row, by, listed}
+use Rattle.measure.specs.Lengths.{Sized, figure_of, millimetres}
 use Rattle.measure.specs.Tables.{sized_step}
 
 abbrev sized : ℕ → Bool

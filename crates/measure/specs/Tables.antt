@@ -3,8 +3,8 @@ use Rattle.std.specs.Prelude.{◌≡◌, ℕ, zero, suc, ◌-◌, ◌^◌, ◌�
 use Rattle.std.proofs.Common.{ap, subst, inl, inr, lit≤}
 use Rattle.std.proofs.Math.Nat.{add-le-add, le-add_left, le_refl, le_trans, min-le_left, not-suc-le-zero}
 use Rattle.measure.specs.Models.{Step}
-use Rattle.measure.specs.Lengths.{Crossing, NoFarther, crossing, crossing_of, crossings, distance, figure_of, millimetres, partitioned}
-use Rattle.measure.specs.Books.{Lawful, Sized, flat, with_partitions}
+use Rattle.measure.specs.Lengths.{Crossing, NoFarther, Sized, crossing, crossing_of, crossings, distance, figure_of, millimetres, partitioned}
+use Rattle.measure.specs.Books.{Lawful, flat, with_partitions}
 use Rattle.measure.specs.declared.book.Size.{Size}
 use Rattle.measure.specs.declared.books.FlatBook.{FlatBook}
 use Rattle.measure.specs.declared.lengths.Millimetres.{Millimetres}
@@ -15,8 +15,8 @@ sized_step n h = record { above_zero = λ a. not-suc-le-zero (le_trans h.0 a); s
 pub flat_lawful : (b : FlatBook) (u : ℕ) → Lawful millimetres 60000 figure_of (flat b u)
 flat_lawful b zero = tt
 flat_lawful b (suc u) = record {
-  width = sized_step b.width.figure (b.wide, b.narrow);
-  depth = sized_step b.depth.figure (b.deep, b.shallow);
+  width = sized_step b.size.width.figure b.width_sized;
+  depth = sized_step b.size.depth.figure b.depth_sized;
 }
 
 -- a length of some distance is not zero

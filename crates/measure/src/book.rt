@@ -22,10 +22,10 @@ pub trait Book {
     // The size of a use, if the book has it.
     fn lookup(&self, purpose: u8) -> Option<Size<Self::M>>
         ensures says { result ≡ table self.now purpose }
-        ensures lawful { Lawful Self.M.Measure.model Self.M.Measure.greatest Self.M.Measure.means result };
+        ensures lawful { Lawful Self.M.Measure.model Self.M.Measure.GREATEST_STEP Self.M.Measure.means result };
 
     // What each `impl` must prove.
-    ghost lawful: { (b : Self) (u : ℕ) → u ≤ 255 → Lawful Self.M.Measure.model Self.M.Measure.greatest Self.M.Measure.means (table b u) };
+    ghost lawful: { (b : Self) (u : ℕ) → u ≤ 255 → Lawful Self.M.Measure.model Self.M.Measure.GREATEST_STEP Self.M.Measure.means (table b u) };
 
     // 0 is no use
     ghost unused: { (b : Self) → table b 0 ≡ None };

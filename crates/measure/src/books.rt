@@ -1,6 +1,7 @@
 // The size books. What they say is in `house`, `flat` and `partition`, since those contracts cite what names the books.
-ghost use Rattle.std.specs.Prelude.{◌≤◌};
+ghost use Rattle.measure.specs.Lengths.{Sized};
 
+use crate::book::Size;
 use crate::lengths::Millimetres;
 
 mod flat;
@@ -11,15 +12,12 @@ mod partition;
 #[derive(Clone, Copy, PartialEq, Eq, Debug)]
 pub struct HouseBook;
 
-// One width and one depth for every use, in millimetres.
+// One size for every use, in millimetres.
 #[derive(Clone, Copy, PartialEq, Eq, Debug)]
 pub struct FlatBook {
-    width: Millimetres,
-    depth: Millimetres,
-    ghost wide: { 1 ≤ width.figure },
-    ghost narrow: { width.figure ≤ 60000 },
-    ghost deep: { 1 ≤ depth.figure },
-    ghost shallow: { depth.figure ≤ 60000 },
+    size: Size<Millimetres>,
+    ghost width_sized: { Sized size.width.figure },
+    ghost depth_sized: { Sized size.depth.figure },
 }
 
 // A book in millimetres with a partition on top of each size.

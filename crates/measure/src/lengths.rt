@@ -5,7 +5,7 @@ mod millimetre;
 mod partition;
 
 // Whole millimetres.
-#[derive(Clone, Copy, PartialEq, Eq, Debug)]
+#[derive(Clone, Copy, PartialEq, Eq, PartialOrd, Ord, Debug)]
 pub struct Millimetres {
     pub(crate) figure: u32,
     ghost small: { figure ≤ 2 ^ 30 },

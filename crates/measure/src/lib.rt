@@ -17,21 +17,17 @@ mod tests;
 pub const GREATEST_EXTENT: u32 = 1 << 30;
 
 // A measure: values that mean elements of a model. The model has more elements than there are values.
-pub trait Measure: Copy {
-    // No step's extent passes this. Generic code reads it through `step_limit`, whose contract says what it is.
+pub trait Measure: Copy + Ord {
+    // No step's extent passes this.
     const GREATEST_STEP: u32;
+
+    // the same, as contracts name it
+    ghost GREATEST_STEP: { ℕ };
 
     ghost model: { Model };
 
     // the element that a value means
     ghost means: { Self → model.Element };
-
-    // the greatest step, as contracts name it
-    ghost greatest: { ℕ };
-
-    // The greatest step.
-    fn step_limit() -> u32
-        ensures { result ≡ greatest };
 
     fn zero() -> Self
         ensures { means result ≡ model.zero };
@@ -41,8 +37,11 @@ pub trait Measure: Copy {
         ensures { Added model means self other result };
 
     // Whether this is below, equal to or above the other.
-    fn compare(self, other: Self) -> Ordering
-        ensures { Compared model means self other result };
+    final fn compare(self, other: Self) -> Ordering
+        ensures { Compared model means self other result }
+    {
+        self.cmp(&other)
+    }
 
     fn extent(self) -> u32
         ensures { result ≡ model.extent (means self) };
@@ -52,5 +51,8 @@ pub trait Measure: Copy {
 
     ghost bounded: { (x : Self) → model.extent (means x) ≤ 2 ^ 30 };
 
-    ghost moderate: { greatest ≤ 1000000 };
+    ghost moderate: { GREATEST_STEP ≤ 1000000 };
+
+    // the order of values is the model's
+    ghost ordered: { (x y : Self) → Compared model means x y (Self.Ord.cmp x y) };
 }

@@ -1,4 +1,6 @@
 // Lengths and books at the edges.
+ghost use Rattle.std.specs.Prelude.{◌≡◌};
+
 use crate::Measure;
 use crate::book::{Book, Size};
 use crate::books::{FlatBook, HouseBook, PartitionBook};
@@ -12,6 +14,13 @@ const TOP: u32 = 1_073_741_824;
 
 fn mm(figure: u32) -> Result<Millimetres, Fail> {
     Ok(Millimetres::new(figure)?)
+}
+
+fn by(width: u32, depth: u32) -> Result<Size<Millimetres>, Fail> {
+    Ok(Size {
+        width: mm(width)?,
+        depth: mm(depth)?,
+    })
 }
 
 fn crossing(figures: (u32, u32)) -> Result<PartitionLength, Fail> {
@@ -97,6 +106,7 @@ fn more_partitions_are_the_lesser_at_equal_distance(rt: HostRuntime) -> Result<(
     assert_eq!(rt; mm(3)?.compare(mm(4)?), Ordering::Less);
     assert_eq!(rt; mm(4)?.compare(mm(4)?), Ordering::Equal);
     assert_eq!(rt; mm(5)?.compare(mm(4)?), Ordering::Greater);
+    assert!(rt; mm(3)? < mm(4)?);
     // from the least to the greatest
     let rising = [
         (0, 0),
@@ -120,17 +130,25 @@ fn rises(rt: &impl Abort, rising: &[(u32, u32)]) -> Result<(), Fail> {
     for (i, a) in rising.iter().enumerate() {
         for (j, b) in rising.iter().enumerate() {
             assert_eq!(rt; crossing(*a)?.compare(crossing(*b)?), i.cmp(&j));
+            assert_eq!(rt; crossing(*a)? < crossing(*b)?, i < j);
         }
     }
     Ok(())
 }
 
+// The greatest step, as code that is generic in the measure reads it.
+fn greatest_step<M: Measure>() -> u32
+    ensures { result ≡ M.GREATEST_STEP }
+{
+    M::GREATEST_STEP
+}
+
 #[test]
 fn greatest_steps(rt: HostRuntime) {
     assert_eq!(rt; Millimetres::GREATEST_STEP, 60_000);
-    assert_eq!(rt; Millimetres::step_limit(), 60_000);
+    assert_eq!(rt; greatest_step::<Millimetres>(), 60_000);
     assert_eq!(rt; PartitionLength::GREATEST_STEP, 60_100);
-    assert_eq!(rt; PartitionLength::step_limit(), 60_100);
+    assert_eq!(rt; greatest_step::<PartitionLength>(), 60_100);
 }
 
 // The book says these sizes of these uses, and nothing of any other.
@@ -140,15 +158,8 @@ fn says(
     rows: &[(u8, u32, u32)],
 ) -> Result<(), Fail> {
     for purpose in 0..=255u8 {
-        let mut size = None;
-        for (row, width, depth) in rows {
-            if *row == purpose {
-                size = Some(Size {
-                    width: mm(*width)?,
-                    depth: mm(*depth)?,
-                });
-            }
-        }
+        let row = rows.iter().find(|row| row.0 == purpose);
+        let size = row.map(|row| by(row.1, row.2)).transpose()?;
         assert_eq!(rt; book.lookup(purpose), size, "use {purpose}");
     }
     Ok(())
@@ -179,11 +190,7 @@ fn a_flat_book_has_one_size(rt: HostRuntime) -> Result<(), Fail> {
         let book = FlatBook::new(width, depth)?;
         assert_eq!(rt; book.lookup(0), None);
         for purpose in [1, 6, 7, 255] {
-            let size = Size {
-                width: mm(width)?,
-                depth: mm(depth)?,
-            };
-            assert_eq!(rt; book.lookup(purpose), Some(size));
+            assert_eq!(rt; book.lookup(purpose), Some(by(width, depth)?));
         }
     }
     for figure in [0, 60_001, u32::MAX] {

@@ -1,6 +1,7 @@
 // The flat book.
-ghost use Rattle.std.specs.Prelude.{◌≡◌, Ok, Err, refl};
-ghost use Rattle.measure.specs.Books.{FlatMade, Sized, flat};
+ghost use Rattle.std.specs.Prelude.{◌≡◌, MatchResult, refl};
+ghost use Rattle.measure.specs.Books.{FlatMade, flat};
+ghost use Rattle.measure.specs.Lengths.{Sized};
 ghost use Rattle.measure.specs.Tables.{flat_lawful};
 ghost use Rattle.fault.specs.declared.Fault.TheVariants.{OutOfRange};
 
@@ -17,15 +18,17 @@ impl FlatBook {
     {
         let width = sized(width)?;
         let depth = sized(depth)?;
-        Ok(FlatBook { width, depth })
+        Ok(FlatBook {
+            size: Size { width, depth },
+        })
     }
 }
 
 // A width or a depth, or out of range.
 fn sized(figure: u32) -> Result<Millimetres, Fault>
-    ensures { elim result [ Ok x ↦ (x.figure ≡ figure) × Sized figure | Err f ↦ (f ≡ OutOfRange) × (Sized figure → ⊥) ] }
+    ensures { MatchResult result (λ x. (x.figure ≡ figure) × Sized figure) (λ f. (f ≡ OutOfRange) × (Sized figure → ⊥)) }
 {
-    if figure < 1 || figure > Millimetres::GREATEST_STEP {
+    if !(1..=Millimetres::GREATEST_STEP).contains(&figure) {
         return Err(Fault::OutOfRange);
     }
     Ok(Millimetres { figure })
@@ -44,9 +47,6 @@ impl Book for FlatBook {
         if purpose == 0 {
             return None;
         }
-        Some(Size {
-            width: self.width,
-            depth: self.depth,
-        })
+        Some(self.size)
     }
 }

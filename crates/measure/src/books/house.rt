@@ -7,7 +7,8 @@ use crate::book::{Book, Size};
 use crate::books::HouseBook;
 use crate::lengths::Millimetres;
 
-// A size of two figures in millimetres.
+// A size of two figures in millimetres. Figures up to 60,000 are not cut.
+#[tactic(auto, using(crate::proofs::Values::same_size))]
 fn size(width: u32, depth: u32) -> Size<Millimetres>
     requires width_bound { width ≤ 60000 }
     requires depth_bound { depth ≤ 60000 }

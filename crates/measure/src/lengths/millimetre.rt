@@ -2,6 +2,7 @@
 ghost use Rattle.measure.specs.Replies.{Made};
 ghost use Rattle.measure.specs.Lengths.{millimetres, figure_of};
 ghost use Rattle.measure.specs.Measures.{millimetres_lawful};
+ghost use Rattle.measure.specs.Comparisons.{millimetres_ordered};
 ghost use Rattle.measure.specs.Texts.{millimetres_text};
 ghost use Rattle.std.specs.Prelude.{Some};
 ghost use Rattle.std.proofs.Common.{lit≤};
@@ -9,7 +10,6 @@ ghost use Rattle.std.proofs.Common.{lit≤};
 use crate::lengths::Millimetres;
 use crate::{GREATEST_EXTENT, Measure};
 use fault::Fault;
-use std::cmp::Ordering;
 use std::fmt;
 
 impl Millimetres {
@@ -27,11 +27,11 @@ impl Millimetres {
 impl Measure for Millimetres {
     const GREATEST_STEP: u32 = 60_000;
 
+    ghost GREATEST_STEP = { 60000 };
+
     ghost model = { millimetres };
 
     ghost means = { figure_of };
-
-    ghost greatest = { 60000 };
 
     ghost lawful = { millimetres_lawful };
 
@@ -39,24 +39,14 @@ impl Measure for Millimetres {
 
     ghost moderate = { lit≤ tt };
 
-    fn step_limit() -> u32 {
-        Self::GREATEST_STEP
-    }
+    ghost ordered = { millimetres_ordered };
 
     fn zero() -> Millimetres {
         Millimetres { figure: 0 }
     }
 
     fn add(self, other: Millimetres) -> Option<Millimetres> {
-        let sum = self.figure + other.figure;
-        if sum > GREATEST_EXTENT {
-            return None;
-        }
-        Some(Millimetres { figure: sum })
-    }
-
-    fn compare(self, other: Millimetres) -> Ordering {
-        self.extent().cmp(&other.extent())
+        Millimetres::new(self.figure + other.figure).ok()
     }
 
     fn extent(self) -> u32 {

@@ -1,8 +1,12 @@
 // Partition lengths as a measure.
-ghost use Rattle.std.specs.Prelude.{◌≡◌, ◌+◌, ◌*◌, Some};
+ghost use Rattle.std.specs.Prelude.{◌≡◌, ◌+◌, ◌*◌, Some, refl};
 ghost use Rattle.measure.specs.Replies.{Made};
 ghost use Rattle.measure.specs.Lengths.{crossing, crossings, crossing_of};
 ghost use Rattle.measure.specs.Measures.{crossings_lawful};
+ghost use Rattle.measure.specs.Comparisons.{crossing_cmp, crossing_cmp_total, crossing_ties, crossings_ordered};
+ghost use Rattle.std.specs.Cmp.{partial_order_from_agreeing_total};
+ghost use Rattle.std.specs.Ordering.{as_partial_cmp, on};
+ghost use Rattle.std.proofs.lemmas.Cmp.{on_total};
 ghost use Rattle.measure.specs.Texts.{partition_text};
 ghost use Rattle.std.proofs.Common.{lit≤};
 
@@ -48,14 +52,41 @@ impl PartitionLength {
     }
 }
 
+// A smaller distance is the lesser; at equal distance, more partitions are the lesser.
+impl Ord for PartitionLength {
+    ghost cmp = { on crossing_of crossing_cmp };
+
+    ghost total = { on_total crossing_of crossing_cmp_total };
+
+    ghost matches_partial_cmp = { λ x y. refl };
+
+    ghost matches_eq = { crossing_ties };
+
+    fn cmp(&self, other: &PartitionLength) -> Ordering {
+        self.extent()
+            .cmp(&other.extent())
+            .then(other.partitions.cmp(&self.partitions))
+    }
+}
+
+impl PartialOrd for PartitionLength {
+    ghost partial_cmp = { as_partial_cmp (on crossing_of crossing_cmp) };
+
+    ghost laws = { partial_order_from_agreeing_total (on crossing_of crossing_cmp) (on_total crossing_of crossing_cmp_total) (λ x y. refl) crossing_ties };
+
+    fn partial_cmp(&self, other: &PartitionLength) -> Option<Ordering> {
+        Some(self.cmp(other))
+    }
+}
+
 impl Measure for PartitionLength {
     const GREATEST_STEP: u32 = 60_100;
+
+    ghost GREATEST_STEP = { 60100 };
 
     ghost model = { crossings };
 
     ghost means = { crossing_of };
-
-    ghost greatest = { 60100 };
 
     ghost lawful = { crossings_lawful };
 
@@ -63,9 +94,7 @@ impl Measure for PartitionLength {
 
     ghost moderate = { lit≤ tt };
 
-    fn step_limit() -> u32 {
-        Self::GREATEST_STEP
-    }
+    ghost ordered = { crossings_ordered };
 
     fn zero() -> PartitionLength {
         PartitionLength {
@@ -75,20 +104,9 @@ impl Measure for PartitionLength {
     }
 
     fn add(self, other: PartitionLength) -> Option<PartitionLength> {
-        if self.extent() + other.extent() > GREATEST_EXTENT {
-            return None;
-        }
-        Some(PartitionLength {
-            clear: self.clear + other.clear,
-            partitions: self.partitions + other.partitions,
-        })
-    }
-
-    fn compare(self, other: PartitionLength) -> Ordering {
-        match self.extent().cmp(&other.extent()) {
-            Ordering::Equal => other.partitions.cmp(&self.partitions),
-            unequal => unequal,
-        }
+        let clear = self.clear + other.clear;
+        let partitions = self.partitions + other.partitions;
+        PartitionLength::new(clear, partitions).ok()
     }
 
     fn extent(self) -> u32 {
