@@ -27,6 +27,8 @@ impl Board {
         }
     }
 
+    // What a call leaves and what it answers stay two clauses of each call: they speak of two states, which no type can carry.
+
     // Adds the room or pair that the word says at the end.
     pub fn enter(&mut self, word: u32) -> Result<(), Fault>
         ensures sheet { sheet_of self.new ≡ after (sheet_of self.old) (edit (Edit.Enter word)) }
@@ -82,6 +84,7 @@ impl Board {
     }
 
     // One call, whichever it is. Where several refusals apply, the one with the smallest number is told.
+    #[tactic(auto, using(crate::proofs::Laws::smallest_told, crate::proofs::Keeping::sound))]
     pub fn apply(&mut self, call: Edit) -> Result<(), Fault>
         ensures sheet { sheet_of self.new ≡ after (sheet_of self.old) (edit call) }
         ensures reply { result ≡ judged (sheet_of self.old) call }
@@ -93,6 +96,8 @@ impl Board {
             Edit::Strike(word) => self.strike(word),
         }
     }
+
+    // The readers of rooms and of pairs stay side by side: a generic one would have to be told which of the two lists it reads, and is no plainer.
 
     // How many rooms are held.
     pub fn rooms(&self) -> usize
