@@ -1,4 +1,7 @@
 // What a board takes and refuses, at the edges.
+ghost use Rattle.std.specs.Prelude.{◌≡◌};
+ghost use Rattle.sheet.specs.Sheets.{same_pair};
+
 use crate::board::Board;
 use crate::edit::Edit;
 use crate::pair::{Direction, Pair};
@@ -278,6 +281,13 @@ fn pairs_have_words(rt: HostRuntime) -> Result<(), Fail> {
     Ok(())
 }
 
+// Pairs compare by their fields, as the definitions say it.
+fn is_same(a: Pair, b: Pair) -> bool
+    ensures { result ≡ same_pair a b }
+{
+    a == b
+}
+
 #[test]
 fn pairs_are_told_apart(rt: HostRuntime) {
     let held = Pair {
@@ -302,6 +312,6 @@ fn pairs_are_told_apart(rt: HostRuntime) {
             second,
         };
         assert_eq!(rt; held.joins_same_rooms(pair), joins);
-        assert_eq!(rt; held == pair, same);
+        assert_eq!(rt; is_same(held, pair), same);
     }
 }
