@@ -113,8 +113,5 @@ fn hex_digit(value: u32) -> char
 pub fn push_line<T: fmt::Display>(out: &mut String, line: &T) -> Result<(), AllocError>
     ensures { OnOk result (IfSome (T.Display.output line.now) (λ bs. string_bytes out.new ≡ string_bytes out.old ++ (bs ++ (10 ∷ [])))) }
 {
-    match writeln!(out, "{line}") {
-        Ok(()) => Ok(()),
-        Err(_) => Err(AllocError),
-    }
+    writeln!(out, "{line}")
 }
