@@ -1,6 +1,5 @@
 // The lines that a journal prints.
-ghost use Rattle.std.specs.Prelude.{◌≡◌, ◌%◌, false, [], ◌∷◌, ◌++◌, IfSome, Some, string_bytes, OnOk};
-ghost use Rattle.std.specs.Fmt.{digit_glyph};
+ghost use Rattle.std.specs.Prelude.{◌≡◌, [], ◌∷◌, ◌++◌, IfSome, Some, string_bytes, OnOk};
 ghost use Rattle.journal.specs.Texts.{held_text, pair_text, reply_text, summary_text};
 
 use fault::Fault;
@@ -81,32 +80,8 @@ impl fmt::Display for HeldPair {
 
     fn fmt<W: fmt::Write>(&self, f: &mut fmt::Formatter<W>) -> fmt::Result {
         let word = self.word;
-        write!(
-            f,
-            "pair {}{}{}{}{}{}{}{}",
-            hex_digit(word >> 28),
-            hex_digit(word >> 24),
-            hex_digit(word >> 20),
-            hex_digit(word >> 16),
-            hex_digit(word >> 12),
-            hex_digit(word >> 8),
-            hex_digit(word >> 4),
-            hex_digit(word),
-        )
+        write!(f, "pair {word:08x}")
     }
-}
-
-// The last hexadecimal digit of `value`, in lower case.
-fn hex_digit(value: u32) -> char
-    ensures { result ≡ digit_glyph false (value % 16) }
-{
-    let digit = (value % 16) as u8;
-    let code = if digit < 10 {
-        b'0' + digit
-    } else {
-        b'a' + (digit - 10)
-    };
-    code as char
 }
 
 // Appends what `{}` writes of `line`, and a line end. Where memory fails, nothing is said of `out`.

@@ -1,8 +1,7 @@
--- Each call of `hex_digit` gives one digit of the word, and the text of a digit is one byte.
-use Rattle.std.proofs.Common.{rules}
-use Rattle.std.proofs.Output.{has_written_of_eq}
-use Rattle.journal.proofs.Digits.{word_bytes}
+-- What `{:08x}` writes of a word is its eight digits.
+use Rattle.std.proofs.Common.{arith}
+use Rattle.journal.proofs.Digits.{word_padded}
 use Rattle.journal.proofs.text.HeldPairDisplay.fmt.Goals as goal
 
 pub returns-clause-writes : goal.returns-clause-writes
-returns-clause-writes g c plain ok = has_written_of_eq _ _ _ _ _ (search (rules, word_bytes)) (c.write.ensures.writes plain ok)
+returns-clause-writes g c = rw (c.laid_out.ensures, c.in_radix.ensures, word_padded c.args.self.now.word (omega arith)) at c.write.ensures.writes
