@@ -1,20 +1,8 @@
 // Reading a line of a journal.
 ghost use Rattle.std.specs.Prelude.{◌≡◌};
-ghost use Rattle.journal.specs.Lines.{digit, said, word_in};
+ghost use Rattle.journal.specs.Lines.{said, word_in};
 
 use sheet::edit::Edit;
-
-// The value of a hexadecimal digit of either case.
-fn digit_value(byte: u8) -> Option<u8>
-    ensures { result ≡ digit byte }
-{
-    match byte {
-        b'0'..=b'9' => Some(byte - b'0'),
-        b'a'..=b'f' => Some(byte - b'a' + 10),
-        b'A'..=b'F' => Some(byte - b'A' + 10),
-        _ => None,
-    }
-}
 
 // The word that exactly eight hexadecimal digits say, the highest digit first.
 fn read_word(text: &[u8]) -> Option<u32>
@@ -25,7 +13,7 @@ fn read_word(text: &[u8]) -> Option<u32>
     }
     let mut value: u32 = 0;
     for byte in text {
-        value = value * 16 + u32::from(digit_value(*byte)?);
+        value = value * 16 + char::from(*byte).to_digit(16)?;
     }
     Some(value)
 }

@@ -78,6 +78,7 @@ pub struct HeldPair {
 impl fmt::Display for HeldPair {
     ghost output = { λ p. Some (pair_text p.word) };
 
+    #[tactic(auto, using(crate::proofs::Digits::word_padded))]
     fn fmt<W: fmt::Write>(&self, f: &mut fmt::Formatter<W>) -> fmt::Result {
         let word = self.word;
         write!(f, "pair {word:08x}")

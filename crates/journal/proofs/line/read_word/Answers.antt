@@ -1,7 +1,7 @@
 -- The loop stops at the first byte that is no digit, and else it has spelled all eight.
-use Rattle.std.proofs.Common.{◌≡◌, true, get_or, is_some, Some, sym, ap, ◌∙◌, rules}
+use Rattle.std.proofs.Common.{◌≡◌, true, get_or, is_some, Some, None, sym, ap, rules}
 use Rattle.journal.specs.Lines.{digit, spelled}
-use Rattle.journal.proofs.Words.{digit_value_below, no_word_digit, no_word_length, pass_more, read_all, read_more, spelled_fits}
+use Rattle.journal.proofs.Words.{digit_is, digit_value_below, no_word_digit, no_word_length, pass_more, read_all, read_more, spelled_fits}
 use Rattle.journal.proofs.line.read_word.Goals as goal
 
 pub returns-then-text-ne8 : goal.returns-then-text-ne8
@@ -14,12 +14,14 @@ loop-byte-init c = search rules
 pub overflow_mul-value : goal.overflow_mul-value
 overflow_mul-value c = search (rules, spelled_fits)
 
-pub returns-in_err-digit_value : goal.returns-in_err-digit_value
-returns-in_err-digit_value c = search (rules, no_word_digit)
+pub returns-in_err-value : goal.returns-in_err-value
+returns-in_err-value c =
+    let h : None ≡ digit (get_or c.args.text.now c.loop-byte.byte-index 0) = search (rules, digit_is) in
+    search (rules, no_word_digit)
 
 -- the digit that was read
-found : (c : goal.After-from) → Some c.from.result ≡ digit (get_or c.args.text.now c.loop-byte.byte-index 0)
-found c = ap Some c.from.ensures ∙ c.in_ok-digit_value.ensures
+found : (c : goal.In_ok-value) → Some c.in_ok-value.field-0 ≡ digit (get_or c.args.text.now c.loop-byte.byte-index 0)
+found c = search (rules, digit_is)
 
 pub overflow_add-value : goal.overflow_add-value
 overflow_add-value c = let h = found c in search (rules, spelled_fits, digit_value_below)
