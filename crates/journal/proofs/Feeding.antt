@@ -1,11 +1,10 @@
 -- Bytes fed one after another are as good as fed at once, and each ended line adds its reply to the output.
-use Rattle.std.proofs.Common.{◌≡◌, ℕ, zero, suc, ◌+◌, ◌<◌, ◌≤◌, List, [], ◌∷◌, ◌++◌, length, get_or, take, Option, sym, refl, ap, ◌∙◌, subst, ap₂}
-use Rattle.std.proofs.lemmas.List.{append_assoc, append-nil, take_all, take_more}
+use Rattle.std.proofs.Common.{◌≡◌, ℕ, zero, suc, ◌+◌, ◌<◌, ◌≤◌, List, [], ◌∷◌, ◌++◌, length, get_or, take, Option, Result, Ok, Err, IsOk, OnOk, OnErr, ◌↔◌, sym, refl, ap, ◌∙◌, subst, ap₂, arith}
+use Rattle.std.proofs.lemmas.List.{append_assoc, append-nil, length_push, take-append-le, take_all, take_more}
 use Rattle.sheet.specs.Boards.{sheet_of}
 use Rattle.sheet.specs.Calls.{run, sheet_after}
 use Rattle.sheet.specs.Sheets.{Sheet}
 use Rattle.sheet.specs.declared.edit.Edit.{Edit}
-use Rattle.journal.specs.Buffers.{line_in}
 use Rattle.journal.specs.Cuts.{cut, with_feed}
 use Rattle.journal.specs.Lines.{said}
 use Rattle.journal.specs.Sessions.{Adds, Fed}
@@ -45,8 +44,14 @@ take_front zero xs b = refl
 take_front (suc n) [] b = refl
 take_front (suc n) (x ∷ xs) b = ap (λ (l : List ℕ). x ∷ l) (take_front n xs b)
 
+-- what a full line keeps of one byte more, and what another keeps
+pub line_more : {E : Type 0} (r : Result (Unit {0}) E) (old new : List ℕ) (b : ℕ) → IsOk r ↔ (length old < 16) → OnOk r (new ≡ old ++ b ∷ []) → OnErr r (new ≡ old) → OnErr r (length old ≡ 16) → new ≡ take 16 (old ++ b ∷ [])
+line_more (Ok u) old new b room more same full = more ∙ sym (take_all 16 (old ++ b ∷ []) (omega (arith, length_push old b, room.0 refl)))
+line_more (Err e) old new b room more same full =
+    same ∙ sym (take-append-le 16 old (b ∷ []) (omega arith) ∙ take_all 16 old (omega arith))
+
 module _ (j k : Session) (b : ℕ) (out : List ℕ) where
-  pub fed_one : (b ≡ 10 → ⊥) → sheet_of k.board ≡ sheet_of j.board → k.tally ≡ j.tally → line_in k.line ≡ take 16 (line_in j.line ++ b ∷ []) → Fed j k (b ∷ []) out out
+  pub fed_one : (b ≡ 10 → ⊥) → sheet_of k.board ≡ sheet_of j.board → k.tally ≡ j.tally → k.line.items ≡ take 16 (j.line.items ++ b ∷ []) → Fed j k (b ∷ []) out out
   fed_one n s t l text h =
       rw (cut_byte text b n) (
         record {
@@ -59,15 +64,15 @@ module _ (j k : Session) (b : ℕ) (out : List ℕ) where
 
 -- ---- a line feed
 module _ (j k : Session) (r : Reply) (out : List ℕ)
-    (is : r ≡ answered (sheet_of j.board) (said (line_in j.line)))
-    (s : sheet_of k.board ≡ run (sheet_of j.board) (called (said (line_in j.line))))
+    (is : r ≡ answered (sheet_of j.board) (said (j.line.items)))
+    (s : sheet_of k.board ≡ run (sheet_of j.board) (called (said (j.line.items))))
     (t : (rs : List Reply) → Tallied j.tally rs → Tallied k.tally (rs ++ r ∷ []))
-    (l : line_in k.line ≡ []) where
+    (l : k.line.items ≡ []) where
   pub fed_end : (out' : List ℕ) → out' ≡ out ++ with_feed (reply_text r) → Fed j k (10 ∷ []) out out'
   fed_end out' o text h =
       let ls = (cut text).ended in
       let rest = (cut text).rest in
-      let says : said (line_in j.line) ≡ said rest = ap said h.line ∙ said_front rest in
+      let says : said (j.line.items) ≡ said rest = ap said h.line ∙ said_front rest in
       let told : answered (sheet_after (calls_in ls)) (said rest) ≡ r =
       sym (is ∙ ap₂ answered h.sheet says) in
       let more : replies (ls ++ rest ∷ []) ≡ replies ls ++ r ∷ [] = replies_push ls rest ∙ ap (λ (x : Reply). replies ls ++ x ∷ []) told in

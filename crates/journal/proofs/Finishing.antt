@@ -4,7 +4,6 @@ use Rattle.std.proofs.lemmas.List.{append_assoc, append-nil, length-take, nil_fr
 use Rattle.sheet.specs.Boards.{sheet_of}
 use Rattle.sheet.specs.Calls.{sheet_after}
 use Rattle.sheet.specs.Sheets.{Sheet}
-use Rattle.journal.specs.Buffers.{line_in}
 use Rattle.journal.specs.Cuts.{Cut, cut, last_line, lines_of, with_feed}
 use Rattle.journal.specs.Sessions.{Adds, After, Fed}
 use Rattle.journal.specs.Tallies.{Tallied}
@@ -31,7 +30,7 @@ no_rest : (rest : List ℕ) → take 16 rest ≡ [] → rest ≡ []
 no_rest rest e = nil_from_length rest (omega (arith, length-take 16 rest, ap length e))
 
 -- nothing is left of the last line
-pub ready_now : (j : Session) (text out : List ℕ) → After j text → line_in j.line ≡ [] → Ready j text out out
+pub ready_now : (j : Session) (text out : List ℕ) → After j text → j.line.items ≡ [] → Ready j text out out
 ready_now j text out h e =
     let none : lines_of text ≡ (cut text).ended = ap (λ (x : List ℕ). (cut text).ended ++ last_line x) (no_rest (cut text).rest (sym h.line ∙ e)) ∙ append-nil (cut text).ended in
     let all = sym none in record {
@@ -41,7 +40,7 @@ ready_now j text out h e =
     }
 
 -- the last line lacks its line feed, and is ended as if it had it
-pub ready_fed : (j k : Session) (text out out' : List ℕ) → After j text → (line_in j.line ≡ [] → ⊥) → Fed j k (10 ∷ []) out out' → Ready k text out out'
+pub ready_fed : (j k : Session) (text out out' : List ℕ) → After j text → (j.line.items ≡ [] → ⊥) → Fed j k (10 ∷ []) out out' → Ready k text out out'
 ready_fed j k text out out' h n f =
     let fed = f text h in
     let some : (cut text).rest ≡ [] → ⊥ = λ e. n (h.line ∙ ap (take 16) e) in

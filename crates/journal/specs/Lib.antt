@@ -1,4 +1,3 @@
-pub mod Buffers
 pub mod Cuts
 pub mod Lines
 pub mod Runs

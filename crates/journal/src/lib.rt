@@ -1,7 +1,6 @@
 // Journals: lists of calls run from a fresh board, and their text.
 #![tactic(auto)]
 
-mod buffer;
 pub mod line;
 pub mod run;
 pub mod session;

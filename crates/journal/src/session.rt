@@ -7,19 +7,22 @@ ghost use Rattle.journal.specs.Lines.{said};
 ghost use Rattle.journal.specs.Sessions.{After, Fed, Finished};
 ghost use Rattle.journal.specs.Transcripts.{answered, called, pair_lines, room_lines, transcript};
 
-use crate::buffer::LineBuffer;
 use crate::line::read_line;
 use crate::tally::Tally;
 use crate::text::{HeldPair, HeldRoom, Reply, Summary, push_line};
+use arrayvec::ArrayVec;
 use sheet::board::Board;
 use std::alloc::{AllocError, Global};
 
-// A board, what was counted so far, and the line that is being read.
+// One byte more than the longest line that can be read.
+const KEPT: usize = 16;
+
+// A board, what was counted so far, and the line that is being read. Only its first bytes are kept, as many as tell whether it can be read, so a line of any length takes the same memory.
 #[derive(Drop)]
 pub struct Session {
     board: Board,
     tally: Tally,
-    line: LineBuffer,
+    line: ArrayVec<u8, KEPT>,
 }
 
 // Makes the call that a line says, if it says one.
@@ -69,7 +72,7 @@ impl Session {
         Session {
             board: Board::new(),
             tally: Tally::new(),
-            line: LineBuffer::new(),
+            line: ArrayVec::new(),
         }
     }
 
@@ -81,7 +84,8 @@ impl Session {
             if *byte == b'\n' {
                 self.end_line(out)?;
             } else {
-                self.line.push(*byte);
+                // a full line takes no more
+                let _ = self.line.try_push(*byte);
             }
         }
         Ok(())
@@ -91,7 +95,7 @@ impl Session {
     fn end_line(&mut self, out: &mut String) -> Result<(), AllocError>
         ensures { OnOk result (Fed self.old self.new (10 ∷ []) (string_bytes out.old) (string_bytes out.new)) }
     {
-        let reply = answer(&mut self.board, self.line.text());
+        let reply = answer(&mut self.board, self.line.as_slice());
         self.tally.note(reply);
         self.line.clear();
         push_line(out, &reply)
@@ -101,7 +105,7 @@ impl Session {
     pub fn finish(mut self, out: &mut String) -> Result<(), AllocError>
         ensures { OnOk result (Finished self (string_bytes out.old) (string_bytes out.new)) }
     {
-        if !self.line.text().is_empty() {
+        if !self.line.is_empty() {
             self.end_line(out)?;
         }
         push_rooms(&self.board, out)?;
