@@ -13,7 +13,7 @@ use Rattle.journal.specs.Texts.{reply_text}
 use Rattle.journal.specs.Transcripts.{answered, answered_so_far, called, calls_in, replies, reply_lines}
 use Rattle.journal.specs.declared.session.Session.{Session}
 use Rattle.journal.specs.declared.tally.Tally.{Tally}
-use Rattle.journal.specs.declared.text.Reply.{Reply}
+use Rattle.journal.specs.Replies.{Reply}
 use Rattle.journal.proofs.Cutting.{cut_byte, cut_feed}
 use Rattle.journal.proofs.Replied.{lines_push, replies_push, sheet_push}
 use Rattle.journal.proofs.Spoken.{said_front}

@@ -11,7 +11,7 @@ use Rattle.journal.specs.Texts.{summary_text}
 use Rattle.journal.specs.Transcripts.{answered_so_far, calls_in, closing, pair_lines, replies, reply_lines, room_lines, summary_of, transcript}
 use Rattle.journal.specs.declared.session.Session.{Session}
 use Rattle.journal.specs.declared.tally.Tally.{Tally}
-use Rattle.journal.specs.declared.text.Reply.{Reply}
+use Rattle.journal.specs.Replies.{Reply}
 use Rattle.journal.specs.declared.text.Summary.{Summary}
 use Rattle.journal.proofs.Cutting.{cut_feed}
 use Rattle.journal.proofs.Feeding.{adds_none, adds_then}

@@ -1,9 +1,10 @@
 -- The text of each line that a journal prints.
-use Rattle.std.specs.Prelude.{ℕ, ◌/◌, ◌%◌, ◌^◌, false, List, [], ◌∷◌, ◌++◌, codes, decimal}
+use Rattle.std.specs.Prelude.{ℕ, ◌/◌, ◌%◌, ◌^◌, false, List, [], ◌∷◌, ◌++◌, codes, decimal, Ok, Err}
 use Rattle.std.specs.Fmt.{digit_glyph}
-use Rattle.fault.specs.Told.{told}
-use Rattle.journal.specs.declared.text.Reply.{Reply}
-use Rattle.journal.specs.declared.text.Reply.TheVariants.{Accepted, Refused, Unreadable}
+use Rattle.fault.specs.Told.{fault_text}
+use Rattle.journal.specs.Replies.{Reply}
+use Rattle.journal.specs.declared.reply.LineError.{LineError}
+use Rattle.journal.specs.declared.reply.LineError.TheVariants.{Refused, Unreadable}
 use Rattle.journal.specs.declared.text.Summary.{Summary}
 
 -- the hexadecimal digit of w above its k lowest bits, in lower case
@@ -14,11 +15,15 @@ place w k = digit_glyph false (w / 2 ^ k % 16)
 abbrev pub word_text : ℕ → List ℕ
 word_text w = place w 28 ∷ (place w 24 ∷ (place w 20 ∷ (place w 16 ∷ (place w 12 ∷ (place w 8 ∷ (place w 4 ∷ (place w 0 ∷ [])))))))
 
--- `ok`, `fault N R S` or `unreadable`
+-- `unreadable` or `fault N R S`
+abbrev pub error_text : LineError → List ℕ
+error_text Unreadable = codes "unreadable"
+error_text (Refused f) = fault_text f
+
+-- `ok`, or the text of the error
 abbrev pub reply_text : Reply → List ℕ
-reply_text Accepted = codes "ok"
-reply_text (Refused f) = codes "fault " ++ (decimal (told f).number ++ (codes " " ++ (decimal (told f).room ++ (codes " " ++ decimal (told f).spot))))
-reply_text Unreadable = codes "unreadable"
+reply_text (Ok u) = codes "ok"
+reply_text (Err e) = error_text e
 
 -- `held K USE`
 abbrev pub held_text : ℕ → ℕ → List ℕ

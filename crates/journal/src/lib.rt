@@ -2,6 +2,7 @@
 #![tactic(auto)]
 
 pub mod line;
+pub mod reply;
 pub mod run;
 pub mod session;
 mod tally;

@@ -8,8 +8,9 @@ ghost use Rattle.journal.specs.Sessions.{After, Fed, Finished};
 ghost use Rattle.journal.specs.Transcripts.{answered, called, pair_lines, room_lines, transcript};
 
 use crate::line::read_line;
+use crate::reply::LineError;
 use crate::tally::Tally;
-use crate::text::{HeldPair, HeldRoom, Reply, Summary, push_line};
+use crate::text::{HeldPair, HeldRoom, Summary, push_line, push_reply};
 use arrayvec::ArrayVec;
 use sheet::board::Board;
 use std::alloc::{AllocError, Global};
@@ -26,17 +27,12 @@ pub struct Session {
 }
 
 // Makes the call that a line says, if it says one.
-fn answer(board: &mut Board, line: &[u8]) -> Reply
+fn answer(board: &mut Board, line: &[u8]) -> Result<(), LineError>
     ensures reply { result ≡ answered (sheet_of board.old) (said line.now) }
     ensures sheet { sheet_of board.new ≡ run (sheet_of board.old) (called (said line.now)) }
 {
-    let Some(call) = read_line(line) else {
-        return Reply::Unreadable;
-    };
-    match board.apply(call) {
-        Ok(()) => Reply::Accepted,
-        Err(fault) => Reply::Refused(fault),
-    }
+    let call = read_line(line).ok_or(LineError::Unreadable)?;
+    Ok(board.apply(call)?)
 }
 
 // A line for each held room.
@@ -98,7 +94,7 @@ impl Session {
         let reply = answer(&mut self.board, self.line.as_slice());
         self.tally.note(reply);
         self.line.clear();
-        push_line(out, &reply)
+        push_reply(out, reply)
     }
 
     // The text ends here: a last line without its line feed counts, and the sheet and the summary follow.

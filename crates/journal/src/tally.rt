@@ -1,9 +1,9 @@
 // How many lines had each reply.
 ghost use Rattle.std.specs.Prelude.{List, [], ◌∷◌, ◌++◌};
 ghost use Rattle.journal.specs.Tallies.{Tallied};
-ghost use Rattle.journal.specs.declared.text.Reply.{Reply as AReply};
+ghost use Rattle.journal.specs.Replies.{Reply};
 
-use crate::text::Reply;
+use crate::reply::LineError;
 
 #[derive(Clone, Copy)]
 pub struct Tally {
@@ -26,19 +26,19 @@ impl Tally {
     }
 
     // One reply more. A count that has come to the greatest number stays there.
-    pub fn note(&mut self, reply: Reply)
-        ensures { (rs : List AReply) → Tallied self.old rs → Tallied self.new (rs ++ reply ∷ []) }
+    pub fn note(&mut self, reply: Result<(), LineError>)
+        ensures { (rs : List Reply) → Tallied self.old rs → Tallied self.new (rs ++ reply ∷ []) }
     {
         match reply {
-            Reply::Accepted => {
+            Ok(()) => {
                 self.calls = self.calls.saturating_add(1);
                 self.accepted = self.accepted.saturating_add(1);
             }
-            Reply::Refused(_) => {
+            Err(LineError::Refused(_)) => {
                 self.calls = self.calls.saturating_add(1);
                 self.refused = self.refused.saturating_add(1);
             }
-            Reply::Unreadable => {
+            Err(LineError::Unreadable) => {
                 self.unreadable = self.unreadable.saturating_add(1);
             }
         }

@@ -1,35 +1,11 @@
 // The lines that a journal prints.
 ghost use Rattle.std.specs.Prelude.{◌≡◌, [], ◌∷◌, ◌++◌, IfSome, Some, string_bytes, OnOk};
+ghost use Rattle.journal.specs.Cuts.{with_feed};
 ghost use Rattle.journal.specs.Texts.{held_text, pair_text, reply_text, summary_text};
 
-use fault::Fault;
+use crate::reply::LineError;
 use std::alloc::AllocError;
 use std::fmt;
-
-// The reply to one line.
-#[derive(Clone, Copy)]
-pub enum Reply {
-    Accepted,
-    Refused(Fault),
-    Unreadable,
-}
-
-impl fmt::Display for Reply {
-    ghost output = { λ r. Some (reply_text r) };
-
-    fn fmt<W: fmt::Write>(&self, f: &mut fmt::Formatter<W>) -> fmt::Result {
-        match self {
-            Reply::Accepted => write!(f, "ok"),
-            Reply::Refused(fault) => {
-                let number = fault.number();
-                let room = fault.room();
-                let spot = fault.spot();
-                write!(f, "fault {number} {room} {spot}")
-            }
-            Reply::Unreadable => write!(f, "unreadable"),
-        }
-    }
-}
 
 // The last line: how many calls were made, and what the sheet holds.
 #[derive(Clone, Copy)]
@@ -90,4 +66,14 @@ pub fn push_line<T: fmt::Display>(out: &mut String, line: &T) -> Result<(), Allo
     ensures { OnOk result (IfSome (T.Display.output line.now) (λ bs. string_bytes out.new ≡ string_bytes out.old ++ (bs ++ (10 ∷ [])))) }
 {
     writeln!(out, "{line}")
+}
+
+// Appends the line that tells a reply. Where memory fails, nothing is said of `out`.
+pub fn push_reply(out: &mut String, reply: Result<(), LineError>) -> Result<(), AllocError>
+    ensures { OnOk result (string_bytes out.new ≡ string_bytes out.old ++ with_feed (reply_text reply)) }
+{
+    match reply {
+        Ok(()) => writeln!(out, "ok"),
+        Err(error) => writeln!(out, "{error}"),
+    }
 }
