@@ -52,27 +52,21 @@ ready_fed j k text out out' h n f =
     }
 
 -- what is counted and held is what the summary says
-summed : (t : Tally) (s : Sheet) (rs : List Reply) (z : Summary) → Tallied t rs → z.calls ≡ t.calls → z.accepted ≡ t.accepted → z.refused ≡ t.refused → z.unreadable ≡ t.unreadable
-    → z.rooms ≡ length s.uses → z.pairs ≡ length s.pairs → z ≡ summary_of rs s
-summed t s rs z h a b c d e f = λ i. record {
-  calls = (a ∙ h.calls) i;
-  accepted = (b ∙ h.accepted) i;
-  refused = (c ∙ h.refused) i;
-  unreadable = (d ∙ h.unreadable) i;
-  rooms = e i;
-  pairs = f i;
-}
+summed : (t : Tally) (s : Sheet) (rs : List Reply) (z : Summary) → Tallied t rs → z.tally ≡ t → z.rooms ≡ length s.uses → z.pairs ≡ length s.pairs → z ≡ summary_of rs s
+summed t s rs z h is rooms pairs =
+    let counts : t ≡ (summary_of rs s).tally = λ i. record { calls = h.calls i; accepted = h.accepted i; refused = h.refused i; unreadable = h.unreadable i } in
+    λ i. record { tally = (is ∙ counts) i; rooms = rooms i; pairs = pairs i }
 
 module _ (k : Session) (z : Summary) (o p q r : List ℕ)
     (rooms : p ≡ o ++ room_lines (sheet_of k.board))
     (pairs : q ≡ p ++ pair_lines (sheet_of k.board))
     (last : r ≡ q ++ with_feed (summary_text z))
-    (calls : z.calls ≡ k.tally.calls) (accepted : z.accepted ≡ k.tally.accepted) (refused : z.refused ≡ k.tally.refused) (unreadable : z.unreadable ≡ k.tally.unreadable)
+    (counts : z.tally ≡ k.tally)
     (room_count : z.rooms ≡ length (sheet_of k.board).uses) (pair_count : z.pairs ≡ length (sheet_of k.board).pairs) where
   closed : (rs : List Reply) → Tallied k.tally rs → r ≡ o ++ closing rs (sheet_of k.board)
   closed rs h =
       let s = sheet_of k.board in
-      let sum = summed k.tally s rs z h calls accepted refused unreadable room_count pair_count in
+      let sum = summed k.tally s rs z h counts room_count pair_count in
       last ∙ ap₂ (λ (x : List ℕ) (y : Summary). x ++ with_feed (summary_text y)) (pairs ∙ ap (λ (x : List ℕ). x ++ pair_lines s) rooms) sum
       ∙ append_assoc (o ++ room_lines s) (pair_lines s) (with_feed (summary_text (summary_of rs s)))
       ∙ append_assoc o (room_lines s) (pair_lines s ++ with_feed (summary_text (summary_of rs s)))

@@ -5,6 +5,7 @@ use Rattle.fault.specs.Told.{fault_text}
 use Rattle.journal.specs.Replies.{Reply}
 use Rattle.journal.specs.declared.reply.LineError.{LineError}
 use Rattle.journal.specs.declared.reply.LineError.TheVariants.{Refused, Unreadable}
+use Rattle.journal.specs.declared.tally.Tally.{Tally}
 use Rattle.journal.specs.declared.text.Summary.{Summary}
 
 -- the hexadecimal digit of w above its k lowest bits, in lower case
@@ -33,8 +34,12 @@ held_text room purpose = codes "held " ++ (decimal room ++ (codes " " ++ decimal
 abbrev pub pair_text : ℕ → List ℕ
 pair_text w = codes "pair " ++ word_text w
 
--- `calls N, accepted A, refused R, unreadable U; rooms X, pairs Y`
+-- `calls N, accepted A, refused R, unreadable U`
+abbrev pub tally_text : Tally → List ℕ
+tally_text t =
+    codes "calls " ++ (decimal t.calls ++ (codes ", accepted " ++ (decimal t.accepted ++ (codes ", refused " ++ (decimal t.refused ++ (codes ", unreadable " ++ decimal t.unreadable))))))
+
+-- the same of its tally, and `; rooms X, pairs Y`
 abbrev pub summary_text : Summary → List ℕ
 summary_text s =
-    codes "calls " ++ (decimal s.calls ++ (codes ", accepted " ++ (decimal s.accepted ++ (codes ", refused " ++ (decimal s.refused
-    ++ (codes ", unreadable " ++ (decimal s.unreadable ++ (codes "; rooms " ++ (decimal s.rooms ++ (codes ", pairs " ++ decimal s.pairs))))))))))
+    tally_text s.tally ++ (codes "; rooms " ++ (decimal s.rooms ++ (codes ", pairs " ++ decimal s.pairs)))

@@ -48,10 +48,12 @@ pair_lines s = flat_map (λ p. with_feed (pair_text (word_of p))) s.pairs
 
 abbrev pub summary_of : List Reply → Sheet → Summary
 summary_of rs s = record {
-  calls = count is_call rs;
-  accepted = count is_accepted rs;
-  refused = count is_refused rs;
-  unreadable = count is_unreadable rs;
+  tally = record {
+    calls = count is_call rs;
+    accepted = count is_accepted rs;
+    refused = count is_refused rs;
+    unreadable = count is_unreadable rs;
+  };
   rooms = length s.uses;
   pairs = length s.pairs;
 }

@@ -5,7 +5,7 @@ pub mod line;
 pub mod reply;
 pub mod run;
 pub mod session;
-mod tally;
+pub mod tally;
 #[cfg(test)]
 mod tests;
 pub mod text;

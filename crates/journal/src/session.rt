@@ -67,7 +67,7 @@ impl Session {
     {
         Session {
             board: Board::new(),
-            tally: Tally::new(),
+            tally: Tally::default(),
             line: ArrayVec::new(),
         }
     }
@@ -107,10 +107,7 @@ impl Session {
         push_rooms(&self.board, out)?;
         push_pairs(&self.board, out)?;
         let summary = Summary {
-            calls: self.tally.calls,
-            accepted: self.tally.accepted,
-            refused: self.tally.refused,
-            unreadable: self.tally.unreadable,
+            tally: self.tally,
             rooms: self.board.rooms(),
             pairs: self.board.pairs(),
         };

@@ -1,11 +1,14 @@
 // How many lines had each reply.
-ghost use Rattle.std.specs.Prelude.{List, [], ◌∷◌, ◌++◌};
+ghost use Rattle.std.specs.Prelude.{List, [], ◌∷◌, ◌++◌, Some};
 ghost use Rattle.journal.specs.Tallies.{Tallied};
+ghost use Rattle.journal.specs.Texts.{tally_text};
 ghost use Rattle.journal.specs.Replies.{Reply};
 
 use crate::reply::LineError;
+use std::fmt;
 
-#[derive(Clone, Copy)]
+// A call is a line that was accepted or refused.
+#[derive(Clone, Copy, Default)]
 pub struct Tally {
     pub calls: u64,
     pub accepted: u64,
@@ -13,18 +16,19 @@ pub struct Tally {
     pub unreadable: u64,
 }
 
-impl Tally {
-    pub fn new() -> Tally
-        ensures { Tallied result [] }
-    {
-        Tally {
-            calls: 0,
-            accepted: 0,
-            refused: 0,
-            unreadable: 0,
-        }
-    }
+impl fmt::Display for Tally {
+    ghost output = { λ t. Some (tally_text t) };
 
+    fn fmt<W: fmt::Write>(&self, f: &mut fmt::Formatter<W>) -> fmt::Result {
+        write!(
+            f,
+            "calls {}, accepted {}, refused {}, unreadable {}",
+            self.calls, self.accepted, self.refused, self.unreadable,
+        )
+    }
+}
+
+impl Tally {
     // One reply more. A count that has come to the greatest number stays there.
     pub fn note(&mut self, reply: Result<(), LineError>)
         ensures { (rs : List Reply) → Tallied self.old rs → Tallied self.new (rs ++ reply ∷ []) }

@@ -4,16 +4,14 @@ ghost use Rattle.journal.specs.Cuts.{with_feed};
 ghost use Rattle.journal.specs.Texts.{held_text, pair_text, reply_text, summary_text};
 
 use crate::reply::LineError;
+use crate::tally::Tally;
 use std::alloc::AllocError;
 use std::fmt;
 
 // The last line: how many calls were made, and what the sheet holds.
 #[derive(Clone, Copy)]
 pub struct Summary {
-    pub calls: u64,
-    pub accepted: u64,
-    pub refused: u64,
-    pub unreadable: u64,
+    pub tally: Tally,
     pub rooms: usize,
     pub pairs: usize,
 }
@@ -24,8 +22,8 @@ impl fmt::Display for Summary {
     fn fmt<W: fmt::Write>(&self, f: &mut fmt::Formatter<W>) -> fmt::Result {
         write!(
             f,
-            "calls {}, accepted {}, refused {}, unreadable {}; rooms {}, pairs {}",
-            self.calls, self.accepted, self.refused, self.unreadable, self.rooms, self.pairs,
+            "{}; rooms {}, pairs {}",
+            self.tally, self.rooms, self.pairs,
         )
     }
 }

@@ -25,5 +25,5 @@ returns c =
     ] in
     IfOk-weaker c.push_line.result _ _
     (λ _ last t h. finished k _ o (string_bytes c.push_rooms.new.out) (string_bytes c.push_pairs.new.out) (string_bytes c.push_line.new.out)
-    c.in_ok-push_rooms.ensures c.in_ok-push_pairs.ensures last (search rules) (search rules) (search rules) (search rules) (search rules) (search rules) t out (ready t h))
+    c.in_ok-push_rooms.ensures c.in_ok-push_pairs.ensures last (search rules) (search rules) (search rules) t out (ready t h))
     c.push_line.ensures
