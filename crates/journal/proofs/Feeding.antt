@@ -1,5 +1,5 @@
 -- Bytes fed one after another are as good as fed at once, and each ended line adds its reply to the output.
-use Rattle.std.proofs.Common.{◌≡◌, ℕ, zero, suc, ◌+◌, ◌<◌, ◌≤◌, List, [], ◌∷◌, ◌++◌, length, get_or, take, Option, Result, Ok, Err, IsOk, OnOk, OnErr, ◌↔◌, sym, refl, ap, ◌∙◌, subst, ap₂, arith}
+use Rattle.std.proofs.Common.{◌≡◌, ℕ, zero, suc, ◌+◌, ◌<◌, List, [], ◌∷◌, ◌++◌, length, get_or, take, Option, Result, Ok, Err, IsOk, OnOk, OnErr, ◌↔◌, sym, refl, ap, ◌∙◌, subst, ap₂, arith}
 use Rattle.std.proofs.lemmas.List.{append_assoc, append-nil, length_push, take-append-le, take_all, take_more}
 use Rattle.sheet.specs.Boards.{sheet_of}
 use Rattle.sheet.specs.Calls.{run, sheet_after}
@@ -28,9 +28,6 @@ adds_then {a} {b} {c} {o} {p} {q} h k = record {
   longer_is = k.longer_is ∙ ap (λ (x : List ℕ). x ++ k.more) h.longer_is ∙ append_assoc a h.more k.more;
   out_is = k.out_is ∙ ap (λ (x : List ℕ). x ++ k.more) h.out_is ∙ append_assoc o h.more k.more;
 }
-
-pub fed_none : (j : Session) (out : List ℕ) → Fed j j [] out out
-fed_none j out text h = rw (append-nil text) (h, adds_none (answered_so_far text) out)
 
 pub fed_then : (j k m : Session) (xs ys o p q : List ℕ) → Fed j k xs o p → Fed k m ys p q → Fed j m (xs ++ ys) o q
 fed_then j k m xs ys o p q f g text h =
@@ -93,9 +90,6 @@ module _ (j k : Session) (r : Reply) (out : List ℕ)
 pub fed_more : (j k m : Session) (bytes : List ℕ) (i : ℕ) (o p q : List ℕ) → i < length bytes → Fed j k (take i bytes) o p → Fed k m (get_or bytes i 0 ∷ []) p q → Fed j m (take (i + 1) bytes) o q
 fed_more j k m bytes i o p q l f g =
     subst (λ (x : List ℕ). Fed j m x o q) (sym (take_more bytes i 0 l)) (fed_then j k m (take i bytes) (get_or bytes i 0 ∷ []) o p q f g)
-
-pub fed_all : (j k : Session) (bytes : List ℕ) (i : ℕ) (o p : List ℕ) → length bytes ≤ i → Fed j k (take i bytes) o p → Fed j k bytes o p
-fed_all j k bytes i o p l f = subst (λ (x : List ℕ). Fed j k x o p) (take_all i bytes l) f
 
 -- ---- from nothing
 pub adds_all : (whole out out' : List ℕ) → out ≡ [] → Adds (answered_so_far []) whole out out' → out' ≡ whole

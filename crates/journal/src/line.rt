@@ -5,6 +5,7 @@ ghost use Rattle.journal.specs.Lines.{said, word_in};
 use sheet::edit::Edit;
 
 // The word that exactly eight hexadecimal digits say, the highest digit first.
+#[tactic(auto, using(crate::proofs::Words::reading), unfolding(crate::specs::Lines::spelled))]
 fn read_word(text: &[u8]) -> Option<u32>
     ensures { result ≡ word_in text.now }
 {
@@ -19,6 +20,7 @@ fn read_word(text: &[u8]) -> Option<u32>
 }
 
 // What a line says, without its line feed: `enter WORD` or `strike WORD`, WORD being exactly eight hexadecimal digits of either case.
+#[tactic(auto, using(crate::proofs::Spoken::said_as_tested))]
 pub fn read_line(line: &[u8]) -> Option<Edit>
     ensures { result ≡ said line.now }
 {

@@ -36,6 +36,7 @@ fn answer(board: &mut Board, line: &[u8]) -> Result<(), LineError>
 }
 
 // A line for each held room.
+#[tactic(auto, using(crate::proofs::Printing::rooms_more))]
 fn push_rooms(board: &Board, out: &mut String) -> Result<(), AllocError>
     ensures { OnOk result (string_bytes out.new ≡ string_bytes out.old ++ room_lines (sheet_of board.now)) }
 {
@@ -50,6 +51,7 @@ fn push_rooms(board: &Board, out: &mut String) -> Result<(), AllocError>
 }
 
 // A line for each held pair.
+#[tactic(auto, using(crate::proofs::Printing::pairs_more))]
 fn push_pairs(board: &Board, out: &mut String) -> Result<(), AllocError>
     ensures { OnOk result (string_bytes out.new ≡ string_bytes out.old ++ pair_lines (sheet_of board.now)) }
 {
@@ -62,6 +64,7 @@ fn push_pairs(board: &Board, out: &mut String) -> Result<(), AllocError>
 
 impl Session {
     // A session with a fresh board, to which nothing was fed.
+    #[tactic(auto, unfolding(crate::specs::Cuts::cut, crate::specs::Transcripts::replies))]
     pub fn new() -> Session
         ensures { After result [] }
     {

@@ -1,12 +1,10 @@
 -- A line feed ends the line and any other byte goes to the line, so each turn feeds one byte more.
 use Rattle.std.proofs.Common.{ℕ, [], ◌∷◌, get_or, string_bytes, sym, refl, subst, arith, rules}
+use Rattle.std.proofs.lemmas.List.{take_all}
 use Rattle.journal.specs.Sessions.{Fed}
-use Rattle.journal.proofs.Feeding.{fed_all, fed_more, fed_none, fed_one, line_more}
+use Rattle.journal.proofs.Feeding.{fed_more, fed_one, line_more}
 use Rattle.journal.proofs.session.Session.feed.Goals as goal
 use Rattle.journal.proofs.session.Session.feed.Goals.{then-byte-eq10+in_ok-end_line, else-byte-eq10}
-
-pub loop-byte-init : goal.loop-byte-init
-loop-byte-init c = fed_none c.args.self.now (string_bytes c.args.out.now)
 
 pub loop-byte-preserved : goal.loop-byte-preserved
 loop-byte-preserved c =
@@ -29,5 +27,4 @@ loop-byte-preserved c =
     ]
 
 pub returns : goal.returns
-returns c =
-    fed_all c.args.self.now c.loop-byte.self c.args.bytes.now c.loop-byte.byte-index (string_bytes c.args.out.now) (string_bytes c.loop-byte.out) c.loop-byte-test.false c.loop-byte.invariant
+returns c = let l = c.loop-byte-test.false in rw take_all at c.loop-byte.invariant
