@@ -7,13 +7,13 @@ use Rattle.sheet.specs.Sheets.{Sheet}
 use Rattle.sheet.specs.declared.edit.Edit.{Edit}
 use Rattle.journal.specs.Cuts.{cut, with_feed}
 use Rattle.journal.specs.Lines.{said}
+use Rattle.journal.specs.Replies.{Reply}
 use Rattle.journal.specs.Sessions.{Adds, Fed}
 use Rattle.journal.specs.Tallies.{Tallied}
 use Rattle.journal.specs.Texts.{reply_text}
 use Rattle.journal.specs.Transcripts.{answered, answered_so_far, called, calls_in, replies, reply_lines}
 use Rattle.journal.specs.declared.session.Session.{Session}
 use Rattle.journal.specs.declared.tally.Tally.{Tally}
-use Rattle.journal.specs.Replies.{Reply}
 use Rattle.journal.proofs.Cutting.{cut_byte, cut_feed}
 use Rattle.journal.proofs.Replied.{lines_push, replies_push, sheet_push}
 use Rattle.journal.proofs.Spoken.{said_front}

@@ -5,13 +5,13 @@ use Rattle.sheet.specs.Boards.{sheet_of}
 use Rattle.sheet.specs.Calls.{sheet_after}
 use Rattle.sheet.specs.Sheets.{Sheet}
 use Rattle.journal.specs.Cuts.{Cut, cut, last_line, lines_of, with_feed}
+use Rattle.journal.specs.Replies.{Reply}
 use Rattle.journal.specs.Sessions.{Adds, After, Fed}
 use Rattle.journal.specs.Tallies.{Tallied}
 use Rattle.journal.specs.Texts.{summary_text}
 use Rattle.journal.specs.Transcripts.{answered_so_far, calls_in, closing, pair_lines, replies, reply_lines, room_lines, summary_of, transcript}
 use Rattle.journal.specs.declared.session.Session.{Session}
 use Rattle.journal.specs.declared.tally.Tally.{Tally}
-use Rattle.journal.specs.Replies.{Reply}
 use Rattle.journal.specs.declared.text.Summary.{Summary}
 use Rattle.journal.proofs.Cutting.{cut_feed}
 use Rattle.journal.proofs.Feeding.{adds_none, adds_then}
@@ -29,15 +29,19 @@ some_last (b ∷ bs) n = refl
 no_rest : (rest : List ℕ) → take 16 rest ≡ [] → rest ≡ []
 no_rest rest e = nil_from_length rest (omega (arith, length-take 16 rest, ap length e))
 
+-- the lines of the text are these
+ready : (k : Session) (text out out' : List ℕ) (ls : List (List ℕ)) → ls ≡ lines_of text → sheet_of k.board ≡ sheet_after (calls_in ls) → Tallied k.tally (replies ls) → Adds (answered_so_far text) (reply_lines (replies ls)) out out' → Ready k text out out'
+ready k text out out' ls all sheet tally adds = record {
+  sheet = sheet ∙ ap (λ (x : List (List ℕ)). sheet_after (calls_in x)) all;
+  tally = subst (λ (x : List (List ℕ)). Tallied k.tally (replies x)) all tally;
+  adds = subst (λ (x : List (List ℕ)). Adds (answered_so_far text) (reply_lines (replies x)) out out') all adds;
+}
+
 -- nothing is left of the last line
 pub ready_now : (j : Session) (text out : List ℕ) → After j text → j.line.items ≡ [] → Ready j text out out
 ready_now j text out h e =
     let none : lines_of text ≡ (cut text).ended = ap (λ (x : List ℕ). (cut text).ended ++ last_line x) (no_rest (cut text).rest (sym h.line ∙ e)) ∙ append-nil (cut text).ended in
-    let all = sym none in record {
-      sheet = h.sheet ∙ ap (λ (x : List (List ℕ)). sheet_after (calls_in x)) all;
-      tally = subst (λ (x : List (List ℕ)). Tallied j.tally (replies x)) all h.tally;
-      adds = subst (λ (x : List (List ℕ)). Adds (answered_so_far text) (reply_lines (replies x)) out out) all (adds_none (answered_so_far text) out);
-    }
+    ready j text out out (cut text).ended (sym none) h.sheet h.tally (adds_none (answered_so_far text) out)
 
 -- the last line lacks its line feed, and is ended as if it had it
 pub ready_fed : (j k : Session) (text out out' : List ℕ) → After j text → (j.line.items ≡ [] → ⊥) → Fed j k (10 ∷ []) out out' → Ready k text out out'
@@ -45,11 +49,8 @@ ready_fed j k text out out' h n f =
     let fed = f text h in
     let some : (cut text).rest ≡ [] → ⊥ = λ e. n (h.line ∙ ap (take 16) e) in
     let all : (cut (text ++ 10 ∷ [])).ended ≡ lines_of text =
-    ap (λ (c : Cut). c.ended) (cut_feed text) ∙ ap (λ (x : List (List ℕ)). (cut text).ended ++ x) (sym (some_last (cut text).rest some)) in record {
-      sheet = fed.0.sheet ∙ ap (λ (x : List (List ℕ)). sheet_after (calls_in x)) all;
-      tally = subst (λ (x : List (List ℕ)). Tallied k.tally (replies x)) all fed.0.tally;
-      adds = subst (λ (x : List (List ℕ)). Adds (answered_so_far text) (reply_lines (replies x)) out out') all fed.1;
-    }
+    ap (λ (c : Cut). c.ended) (cut_feed text) ∙ ap (λ (x : List (List ℕ)). (cut text).ended ++ x) (sym (some_last (cut text).rest some)) in
+    ready k text out out' (cut (text ++ 10 ∷ [])).ended all fed.0.sheet fed.0.tally fed.1
 
 -- what is counted and held is what the summary says
 summed : (t : Tally) (s : Sheet) (rs : List Reply) (z : Summary) → Tallied t rs → z.tally ≡ t → z.rooms ≡ length s.uses → z.pairs ≡ length s.pairs → z ≡ summary_of rs s

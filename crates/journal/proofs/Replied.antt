@@ -8,9 +8,9 @@ use Rattle.sheet.specs.Sheets.{empty}
 use Rattle.journal.proofs.Running.{run_append}
 use Rattle.journal.specs.Cuts.{with_feed}
 use Rattle.journal.specs.Lines.{said}
+use Rattle.journal.specs.Replies.{Reply}
 use Rattle.journal.specs.Texts.{reply_text}
 use Rattle.journal.specs.Transcripts.{answered, called, calls_in, replies, reply_lines}
-use Rattle.journal.specs.Replies.{Reply}
 use Rattle.journal.specs.declared.reply.LineError.TheVariants.{Unreadable}
 
 pub sheet_push : (ls : List (List ℕ)) (l : List ℕ) → sheet_after (calls_in (ls ++ l ∷ [])) ≡ run (sheet_after (calls_in ls)) (called (said l))

@@ -6,7 +6,6 @@ use Rattle.std.specs.List.{list_all}
 use Rattle.std.specs.Option.{SomeIff}
 use Rattle.std.proofs.lemmas.List.{take_all}
 use Rattle.std.proofs.lemmas.List.Folds.{list_all_at}
-pub use Rattle.std.proofs.lemmas.List.Folds.{list_all_more}
 use Rattle.std.proofs.lemmas.List.Sums.{fold_more}
 use Rattle.std.proofs.lemmas.Bool.{and_right, ne_eqb}
 use Rattle.std.proofs.lemmas.Bool.Decides.{nat_tests}
@@ -69,4 +68,4 @@ module _ (cs : List ℕ) where
   read_all i v n l e h = let whole = take_all i cs l in rw (n, rw whole at h) (ap Some (e ∙ ap spelled whole))
 
 -- what the loop over the digits cites
-pub ruleset reading = (digit_is, digit_value_below, spelled_fits, list_all_more, no_word_length, no_word_digit, read_more, read_all)
+pub ruleset reading = (digit_is, digit_value_below, spelled_fits, no_word_length, no_word_digit, read_all)

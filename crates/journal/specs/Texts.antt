@@ -39,7 +39,7 @@ abbrev pub tally_text : Tally → List ℕ
 tally_text t =
     codes "calls " ++ (decimal t.calls ++ (codes ", accepted " ++ (decimal t.accepted ++ (codes ", refused " ++ (decimal t.refused ++ (codes ", unreadable " ++ decimal t.unreadable))))))
 
--- the same of its tally, and `; rooms X, pairs Y`
+-- the text of its tally, and `; rooms X, pairs Y`
 abbrev pub summary_text : Summary → List ℕ
 summary_text s =
     tally_text s.tally ++ (codes "; rooms " ++ (decimal s.rooms ++ (codes ", pairs " ++ decimal s.pairs)))

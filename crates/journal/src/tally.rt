@@ -1,8 +1,8 @@
 // How many lines had each reply.
 ghost use Rattle.std.specs.Prelude.{List, [], ◌∷◌, ◌++◌, Some};
+ghost use Rattle.journal.specs.Replies.{Reply};
 ghost use Rattle.journal.specs.Tallies.{Tallied};
 ghost use Rattle.journal.specs.Texts.{tally_text};
-ghost use Rattle.journal.specs.Replies.{Reply};
 
 use crate::reply::LineError;
 use std::fmt;
