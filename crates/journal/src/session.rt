@@ -64,7 +64,6 @@ fn push_pairs(board: &Board, out: &mut String) -> Result<(), AllocError>
 
 impl Session {
     // A session with a fresh board, to which nothing was fed.
-    #[tactic(auto, unfolding(crate::specs::Cuts::cut, crate::specs::Transcripts::replies))]
     pub fn new() -> Session
         ensures { After result [] }
     {

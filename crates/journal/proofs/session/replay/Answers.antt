@@ -1,5 +1,5 @@
 -- A fresh session was fed nothing, then the whole text, and then finished.
-use Rattle.std.proofs.Common.{[], string_bytes, rules}
+use Rattle.std.proofs.Common.{[], string_bytes}
 use Rattle.journal.specs.Transcripts.{transcript}
 use Rattle.journal.proofs.Cutting.{cut_law}
 use Rattle.journal.proofs.Feeding.{adds_all, adds_then}
@@ -18,5 +18,5 @@ pub returns-clause-transcript : goal.returns-clause-transcript
 returns-clause-transcript c =
     let t = c.args.text.now in
     let fed = c.in_ok-feed.ensures [] c.new-session.ensures in
-    let done = c.in_ok-finish.ensures t (search (rules, fed.0)) in
+    let done = c.in_ok-finish.ensures t fed.0 in
     adds_all (transcript t) (string_bytes c.new-out.result) (string_bytes c.finish.new.out) c.new-out.ensures.bytes (adds_then {q = string_bytes c.finish.new.out} fed.1 done)

@@ -1,5 +1,5 @@
 -- The last line is ended if there is one, and then the sheet and the summary are printed.
-use Rattle.std.proofs.Common.{◌≡◌, ℕ, List, [], length, string_bytes, sym, ap, ◌∙◌, rules}
+use Rattle.std.proofs.Common.{◌≡◌, ℕ, List, [], length, string_bytes, refl, sym, ap, ◌∙◌}
 use Rattle.std.proofs.lemmas.List.{nil_from_length}
 use Rattle.std.proofs.lemmas.Result.{IfOk-weaker}
 use Rattle.std.proofs.lemmas.Bool.{eqb-false, eqb-true}
@@ -25,5 +25,5 @@ returns c =
     ] in
     IfOk-weaker c.push_line.result _ _
     (λ _ last t h. finished k _ o (string_bytes c.push_rooms.new.out) (string_bytes c.push_pairs.new.out) (string_bytes c.push_line.new.out)
-    c.in_ok-push_rooms.ensures c.in_ok-push_pairs.ensures last (search rules) (search rules) (search rules) t out (ready t h))
+    c.in_ok-push_rooms.ensures c.in_ok-push_pairs.ensures last refl c.rooms.ensures.count c.pairs.ensures.count t out (ready t h))
     c.push_line.ensures
