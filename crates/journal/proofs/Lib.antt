@@ -1,4 +1,3 @@
-pub mod Counting
 pub mod Cutting
 pub mod Digits
 pub mod Feeding

@@ -1,5 +1,5 @@
 -- A test of bytes that found a prefix, or found none, has the answer of the definition's own test of the same bytes.
-use Rattle.std.proofs.Common.{◌≡◌, ℕ, ◌<◌, ◌≤◌, ◌==◌, ◌&&◌, Bool, true, false, cond, ◌⊎◌, List, [], ◌∷◌, length, take, drop, None, codes, nat_eq, Option, sym, refl, ap, ◌∙◌, inl, inr, ⊎_elim, arith}
+use Rattle.std.proofs.Common.{◌≡◌, ℕ, ◌<◌, ◌==◌, ◌&&◌, Bool, true, false, cond, List, [], ◌∷◌, length, take, drop, None, codes, nat_eq, Option, sym, refl, ap, ◌∙◌, ⊎_elim, arith}
 use Rattle.std.specs.Cmp.Lexicographic.{pointwise}
 use Rattle.std.specs.Option.{option_map}
 use Rattle.std.proofs.lemmas.List.{length-drop, length-take, take_all}
@@ -38,6 +38,8 @@ module _ (line : List ℕ) where
   said_nothing e s =
       rw (answer (take 6 line) (codes "enter ") false e, answer (take 7 line) (codes "strike ") false s)
 
+pub ruleset said_as_tested = (said_enter, said_strike, said_nothing)
+
 -- ---- a line that is longer than any that can be read
 cond_same : (b : Bool) (o : Option Edit) → cond b o o ≡ o
 cond_same true o = refl
@@ -53,9 +55,7 @@ said_long line l =
 -- the first sixteen bytes of a line tell what it says
 pub said_front : (line : List ℕ) → said (take 16 line) ≡ said line
 said_front line =
-    ⊎_elim (λ l. ap said (take_all 16 line l))
-    (λ l. said_long (take 16 line) (omega (arith, length-take 16 line)) ∙ sym (said_long line (omega arith)))
-    (cases_le (length line) 16)
-  where
-    cases_le : (m n : ℕ) → (m ≤ n) ⊎ (n < m)
-    cases_le m n = ⊎_elim (λ h. inr h) (λ h. inl h) (cases_lt n m)
+    ⊎_elim
+    (λ long. said_long (take 16 line) (omega (arith, length-take 16 line)) ∙ sym (said_long line (omega arith)))
+    (λ short. ap said (take_all 16 line short))
+    (cases_lt 16 (length line))

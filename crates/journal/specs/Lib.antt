@@ -1,6 +1,6 @@
-pub mod Buffers
 pub mod Cuts
 pub mod Lines
+pub mod Replies
 pub mod Runs
 pub mod Sessions
 pub mod Tallies

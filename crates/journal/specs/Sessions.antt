@@ -2,17 +2,16 @@
 use Rattle.std.specs.Prelude.{◌≡◌, ℕ, List, ◌++◌, take}
 use Rattle.sheet.specs.Boards.{sheet_of}
 use Rattle.sheet.specs.Calls.{sheet_after}
-use Rattle.journal.specs.Buffers.{line_in}
 use Rattle.journal.specs.Cuts.{Cut, cut}
 use Rattle.journal.specs.Tallies.{Tallied}
 use Rattle.journal.specs.Transcripts.{answered_so_far, calls_in, replies, transcript}
 use Rattle.journal.specs.declared.session.Session.{Session}
 
--- what a session holds at a cut of the text: its board has the sheet that the ended lines made, its counts are of their replies, and its line buffer has the first bytes of the rest
+-- what a session holds at a cut of the text: its board has the sheet that the ended lines made, its counts are of their replies, and its line is the first bytes of the rest
 pub record Holds (j : Session) (c : Cut) : Type 0 where
   pub sheet : sheet_of j.board ≡ sheet_after (calls_in c.ended)
   pub tally : Tallied j.tally (replies c.ended)
-  pub line : line_in j.line ≡ take 16 c.rest
+  pub line : j.line.items ≡ take 16 c.rest
 
 -- the session has been fed this text
 abbrev pub After : Session → List ℕ → Type 0

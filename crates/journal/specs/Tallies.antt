@@ -1,23 +1,22 @@
 -- Counting replies.
-use Rattle.std.specs.Prelude.{◌≡◌, ℕ, ◌-◌, ◌^◌, min, Bool, true, false, not, List, length, filter}
+use Rattle.std.specs.Prelude.{◌≡◌, ℕ, ◌-◌, ◌^◌, min, Bool, true, false, not, List, length, filter, Ok, Err}
+use Rattle.journal.specs.Replies.{Reply}
+use Rattle.journal.specs.declared.reply.LineError.TheVariants.{Refused, Unreadable}
 use Rattle.journal.specs.declared.tally.Tally.{Tally}
-use Rattle.journal.specs.declared.text.Reply.{Reply}
-use Rattle.journal.specs.declared.text.Reply.TheVariants.{Accepted, Refused, Unreadable}
 
 abbrev pub is_accepted : Reply → Bool
-is_accepted Accepted = true
-is_accepted (Refused f) = false
-is_accepted Unreadable = false
+is_accepted (Ok u) = true
+is_accepted (Err e) = false
 
 abbrev pub is_refused : Reply → Bool
-is_refused Accepted = false
-is_refused (Refused f) = true
-is_refused Unreadable = false
+is_refused (Ok u) = false
+is_refused (Err Unreadable) = false
+is_refused (Err (Refused f)) = true
 
 abbrev pub is_unreadable : Reply → Bool
-is_unreadable Accepted = false
-is_unreadable (Refused f) = false
-is_unreadable Unreadable = true
+is_unreadable (Ok u) = false
+is_unreadable (Err Unreadable) = true
+is_unreadable (Err (Refused f)) = false
 
 -- a call was made: accepted or refused
 abbrev pub is_call : Reply → Bool

@@ -8,10 +8,10 @@ use Rattle.sheet.specs.Words.{word_of}
 use Rattle.sheet.specs.declared.edit.Edit.{Edit}
 use Rattle.journal.specs.Cuts.{cut, lines_of, with_feed}
 use Rattle.journal.specs.Lines.{said}
+use Rattle.journal.specs.Replies.{Reply}
 use Rattle.journal.specs.Tallies.{count, is_accepted, is_call, is_refused, is_unreadable}
 use Rattle.journal.specs.Texts.{held_text, pair_text, reply_text, summary_text}
-use Rattle.journal.specs.declared.text.Reply.{Reply}
-use Rattle.journal.specs.declared.text.Reply.TheVariants.{Accepted, Refused, Unreadable}
+use Rattle.journal.specs.declared.reply.LineError.TheVariants.{Refused, Unreadable}
 use Rattle.journal.specs.declared.text.Summary.{Summary}
 
 -- the call that a line says, if it says one
@@ -24,12 +24,12 @@ abbrev pub calls_in : List (List ℕ) → List Call
 calls_in ls = flat_map (λ l. called (said l)) ls
 
 abbrev pub reply_of : Result (Unit {0}) Fault → Reply
-reply_of (Ok u) = Accepted
-reply_of (Err f) = Refused f
+reply_of (Ok u) = Ok u
+reply_of (Err f) = Err (Refused f)
 
 -- the reply to a line, by what it says, on a sheet
 abbrev pub answered : Sheet → Option Edit → Reply
-answered s None = Unreadable
+answered s None = Err Unreadable
 answered s (Some e) = reply_of (judged s e)
 
 -- the replies to lines: the one to line k, counted from 0, is judged on the sheet that the calls of the first k lines made
@@ -48,10 +48,12 @@ pair_lines s = flat_map (λ p. with_feed (pair_text (word_of p))) s.pairs
 
 abbrev pub summary_of : List Reply → Sheet → Summary
 summary_of rs s = record {
-  calls = count is_call rs;
-  accepted = count is_accepted rs;
-  refused = count is_refused rs;
-  unreadable = count is_unreadable rs;
+  tally = record {
+    calls = count is_call rs;
+    accepted = count is_accepted rs;
+    refused = count is_refused rs;
+    unreadable = count is_unreadable rs;
+  };
   rooms = length s.uses;
   pairs = length s.pairs;
 }

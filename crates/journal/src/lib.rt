@@ -1,11 +1,11 @@
 // Journals: lists of calls run from a fresh board, and their text.
 #![tactic(auto)]
 
-mod buffer;
 pub mod line;
+pub mod reply;
 pub mod run;
 pub mod session;
-mod tally;
+pub mod tally;
 #[cfg(test)]
 mod tests;
 pub mod text;

@@ -1,22 +1,11 @@
 // Reading a line of a journal.
 ghost use Rattle.std.specs.Prelude.{◌≡◌};
-ghost use Rattle.journal.specs.Lines.{digit, said, word_in};
+ghost use Rattle.journal.specs.Lines.{said, word_in};
 
 use sheet::edit::Edit;
 
-// The value of a hexadecimal digit of either case.
-fn digit_value(byte: u8) -> Option<u8>
-    ensures { result ≡ digit byte }
-{
-    match byte {
-        b'0'..=b'9' => Some(byte - b'0'),
-        b'a'..=b'f' => Some(byte - b'a' + 10),
-        b'A'..=b'F' => Some(byte - b'A' + 10),
-        _ => None,
-    }
-}
-
 // The word that exactly eight hexadecimal digits say, the highest digit first.
+#[tactic(auto, using(crate::proofs::Words::reading), unfolding(crate::specs::Lines::spelled))]
 fn read_word(text: &[u8]) -> Option<u32>
     ensures { result ≡ word_in text.now }
 {
@@ -25,12 +14,13 @@ fn read_word(text: &[u8]) -> Option<u32>
     }
     let mut value: u32 = 0;
     for byte in text {
-        value = value * 16 + u32::from(digit_value(*byte)?);
+        value = value * 16 + char::from(*byte).to_digit(16)?;
     }
     Some(value)
 }
 
 // What a line says, without its line feed: `enter WORD` or `strike WORD`, WORD being exactly eight hexadecimal digits of either case.
+#[tactic(auto, using(crate::proofs::Spoken::said_as_tested))]
 pub fn read_line(line: &[u8]) -> Option<Edit>
     ensures { result ≡ said line.now }
 {

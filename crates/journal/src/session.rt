@@ -7,36 +7,36 @@ ghost use Rattle.journal.specs.Lines.{said};
 ghost use Rattle.journal.specs.Sessions.{After, Fed, Finished};
 ghost use Rattle.journal.specs.Transcripts.{answered, called, pair_lines, room_lines, transcript};
 
-use crate::buffer::LineBuffer;
 use crate::line::read_line;
+use crate::reply::LineError;
 use crate::tally::Tally;
-use crate::text::{HeldPair, HeldRoom, Reply, Summary, push_line};
+use crate::text::{HeldPair, HeldRoom, Summary, push_line, push_reply};
+use arrayvec::ArrayVec;
 use sheet::board::Board;
 use std::alloc::{AllocError, Global};
 
-// A board, what was counted so far, and the line that is being read.
+// One byte more than the longest line that can be read.
+const KEPT: usize = 16;
+
+// A board, what was counted so far, and the line that is being read. Only its first bytes are kept, as many as tell whether it can be read, so a line of any length takes the same memory.
 #[derive(Drop)]
 pub struct Session {
     board: Board,
     tally: Tally,
-    line: LineBuffer,
+    line: ArrayVec<u8, KEPT>,
 }
 
 // Makes the call that a line says, if it says one.
-fn answer(board: &mut Board, line: &[u8]) -> Reply
+fn answer(board: &mut Board, line: &[u8]) -> Result<(), LineError>
     ensures reply { result ≡ answered (sheet_of board.old) (said line.now) }
     ensures sheet { sheet_of board.new ≡ run (sheet_of board.old) (called (said line.now)) }
 {
-    let Some(call) = read_line(line) else {
-        return Reply::Unreadable;
-    };
-    match board.apply(call) {
-        Ok(()) => Reply::Accepted,
-        Err(fault) => Reply::Refused(fault),
-    }
+    let call = read_line(line).ok_or(LineError::Unreadable)?;
+    Ok(board.apply(call)?)
 }
 
 // A line for each held room.
+#[tactic(auto, using(crate::proofs::Printing::rooms_more))]
 fn push_rooms(board: &Board, out: &mut String) -> Result<(), AllocError>
     ensures { OnOk result (string_bytes out.new ≡ string_bytes out.old ++ room_lines (sheet_of board.now)) }
 {
@@ -51,6 +51,7 @@ fn push_rooms(board: &Board, out: &mut String) -> Result<(), AllocError>
 }
 
 // A line for each held pair.
+#[tactic(auto, using(crate::proofs::Printing::pairs_more))]
 fn push_pairs(board: &Board, out: &mut String) -> Result<(), AllocError>
     ensures { OnOk result (string_bytes out.new ≡ string_bytes out.old ++ pair_lines (sheet_of board.now)) }
 {
@@ -68,8 +69,8 @@ impl Session {
     {
         Session {
             board: Board::new(),
-            tally: Tally::new(),
-            line: LineBuffer::new(),
+            tally: Tally::default(),
+            line: ArrayVec::new(),
         }
     }
 
@@ -81,7 +82,8 @@ impl Session {
             if *byte == b'\n' {
                 self.end_line(out)?;
             } else {
-                self.line.push(*byte);
+                // a full line takes no more
+                let _ = self.line.try_push(*byte);
             }
         }
         Ok(())
@@ -91,26 +93,23 @@ impl Session {
     fn end_line(&mut self, out: &mut String) -> Result<(), AllocError>
         ensures { OnOk result (Fed self.old self.new (10 ∷ []) (string_bytes out.old) (string_bytes out.new)) }
     {
-        let reply = answer(&mut self.board, self.line.text());
+        let reply = answer(&mut self.board, self.line.as_slice());
         self.tally.note(reply);
         self.line.clear();
-        push_line(out, &reply)
+        push_reply(out, reply)
     }
 
     // The text ends here: a last line without its line feed counts, and the sheet and the summary follow.
     pub fn finish(mut self, out: &mut String) -> Result<(), AllocError>
         ensures { OnOk result (Finished self (string_bytes out.old) (string_bytes out.new)) }
     {
-        if !self.line.text().is_empty() {
+        if !self.line.is_empty() {
             self.end_line(out)?;
         }
         push_rooms(&self.board, out)?;
         push_pairs(&self.board, out)?;
         let summary = Summary {
-            calls: self.tally.calls,
-            accepted: self.tally.accepted,
-            refused: self.tally.refused,
-            unreadable: self.tally.unreadable,
+            tally: self.tally,
             rooms: self.board.rooms(),
             pairs: self.board.pairs(),
         };

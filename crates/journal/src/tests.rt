@@ -1,6 +1,8 @@
 // What a journal is answered with, at the edges of its lines.
+use crate::reply::LineError;
 use crate::run::run;
 use crate::session::{Session, replay};
+use crate::text::push_reply;
 use fault::Fault;
 use sheet::edit::Edit;
 use std::test::Fail;
@@ -36,8 +38,8 @@ fn pieces_are_as_good_as_the_whole(rt: HostRuntime) -> Result<(), Fail> {
     let whole = replay(rt.alloc(), text)?;
     let mut session = Session::new();
     let mut out = String::new(rt.alloc());
-    for i in 0..text.len() {
-        session.feed(&text[i..i + 1], &mut out)?;
+    for piece in text.chunks(1) {
+        session.feed(piece, &mut out)?;
     }
     session.finish(&mut out)?;
     assert_eq!(rt; out.as_str(), whole.as_str());
@@ -73,5 +75,15 @@ fn replies_come_in_order(rt: HostRuntime) -> Result<(), Fail> {
     }
     assert_eq!(rt; outcome.board.rooms(), 2);
     assert_eq!(rt; outcome.board.pairs(), 0);
+    Ok(())
+}
+
+#[test]
+fn a_reply_is_a_line(rt: HostRuntime) -> Result<(), Fail> {
+    let mut out = String::new(rt.alloc());
+    push_reply(&mut out, Ok(()))?;
+    push_reply(&mut out, Err(LineError::Refused(Fault::OutOfRange)))?;
+    push_reply(&mut out, Err(LineError::Unreadable))?;
+    assert_eq!(rt; out.as_str(), "ok\nfault 2 0 0\nunreadable\n");
     Ok(())
 }

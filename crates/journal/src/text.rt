@@ -1,44 +1,17 @@
 // The lines that a journal prints.
-ghost use Rattle.std.specs.Prelude.{◌≡◌, ◌%◌, false, [], ◌∷◌, ◌++◌, IfSome, Some, string_bytes, OnOk};
-ghost use Rattle.std.specs.Fmt.{digit_glyph};
+ghost use Rattle.std.specs.Prelude.{◌≡◌, [], ◌∷◌, ◌++◌, IfSome, Some, string_bytes, OnOk};
+ghost use Rattle.journal.specs.Cuts.{with_feed};
 ghost use Rattle.journal.specs.Texts.{held_text, pair_text, reply_text, summary_text};
 
-use fault::Fault;
+use crate::reply::LineError;
+use crate::tally::Tally;
 use std::alloc::AllocError;
 use std::fmt;
-
-// The reply to one line.
-#[derive(Clone, Copy)]
-pub enum Reply {
-    Accepted,
-    Refused(Fault),
-    Unreadable,
-}
-
-impl fmt::Display for Reply {
-    ghost output = { λ r. Some (reply_text r) };
-
-    fn fmt<W: fmt::Write>(&self, f: &mut fmt::Formatter<W>) -> fmt::Result {
-        match self {
-            Reply::Accepted => write!(f, "ok"),
-            Reply::Refused(fault) => {
-                let number = fault.number();
-                let room = fault.room();
-                let spot = fault.spot();
-                write!(f, "fault {number} {room} {spot}")
-            }
-            Reply::Unreadable => write!(f, "unreadable"),
-        }
-    }
-}
 
 // The last line: how many calls were made, and what the sheet holds.
 #[derive(Clone, Copy)]
 pub struct Summary {
-    pub calls: u64,
-    pub accepted: u64,
-    pub refused: u64,
-    pub unreadable: u64,
+    pub tally: Tally,
     pub rooms: usize,
     pub pairs: usize,
 }
@@ -49,8 +22,8 @@ impl fmt::Display for Summary {
     fn fmt<W: fmt::Write>(&self, f: &mut fmt::Formatter<W>) -> fmt::Result {
         write!(
             f,
-            "calls {}, accepted {}, refused {}, unreadable {}; rooms {}, pairs {}",
-            self.calls, self.accepted, self.refused, self.unreadable, self.rooms, self.pairs,
+            "{}; rooms {}, pairs {}",
+            self.tally, self.rooms, self.pairs,
         )
     }
 }
@@ -79,42 +52,26 @@ pub struct HeldPair {
 impl fmt::Display for HeldPair {
     ghost output = { λ p. Some (pair_text p.word) };
 
+    #[tactic(auto, using(crate::proofs::Digits::word_padded))]
     fn fmt<W: fmt::Write>(&self, f: &mut fmt::Formatter<W>) -> fmt::Result {
         let word = self.word;
-        write!(
-            f,
-            "pair {}{}{}{}{}{}{}{}",
-            hex_digit(word >> 28),
-            hex_digit(word >> 24),
-            hex_digit(word >> 20),
-            hex_digit(word >> 16),
-            hex_digit(word >> 12),
-            hex_digit(word >> 8),
-            hex_digit(word >> 4),
-            hex_digit(word),
-        )
+        write!(f, "pair {word:08x}")
     }
-}
-
-// The last hexadecimal digit of `value`, in lower case.
-fn hex_digit(value: u32) -> char
-    ensures { result ≡ digit_glyph false (value % 16) }
-{
-    let digit = (value % 16) as u8;
-    let code = if digit < 10 {
-        b'0' + digit
-    } else {
-        b'a' + (digit - 10)
-    };
-    code as char
 }
 
 // Appends what `{}` writes of `line`, and a line end. Where memory fails, nothing is said of `out`.
 pub fn push_line<T: fmt::Display>(out: &mut String, line: &T) -> Result<(), AllocError>
     ensures { OnOk result (IfSome (T.Display.output line.now) (λ bs. string_bytes out.new ≡ string_bytes out.old ++ (bs ++ (10 ∷ [])))) }
 {
-    match writeln!(out, "{line}") {
-        Ok(()) => Ok(()),
-        Err(_) => Err(AllocError),
+    writeln!(out, "{line}")
+}
+
+// Appends the line that tells a reply. Where memory fails, nothing is said of `out`.
+pub fn push_reply(out: &mut String, reply: Result<(), LineError>) -> Result<(), AllocError>
+    ensures { OnOk result (string_bytes out.new ≡ string_bytes out.old ++ with_feed (reply_text reply)) }
+{
+    match reply {
+        Ok(()) => writeln!(out, "ok"),
+        Err(error) => writeln!(out, "{error}"),
     }
 }

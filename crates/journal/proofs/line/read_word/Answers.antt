@@ -1,34 +1,17 @@
--- The loop stops at the first byte that is no digit, and else it has spelled all eight.
-use Rattle.std.proofs.Common.{◌≡◌, true, get_or, is_some, Some, sym, ap, ◌∙◌, rules}
-use Rattle.journal.specs.Lines.{digit, spelled}
-use Rattle.journal.proofs.Words.{digit_value_below, no_word_digit, no_word_length, pass_more, read_all, read_more, spelled_fits}
+-- The byte that was read is a digit, and the value has one digit more.
+use Rattle.std.proofs.Common.{◌≡◌, true, get_or, is_some, Some, sym, ap, ◌∙◌}
+use Rattle.std.proofs.lemmas.List.Folds.{list_all_more}
+use Rattle.journal.specs.Lines.{digit}
+use Rattle.journal.proofs.Words.{digit_is, read_more}
 use Rattle.journal.proofs.line.read_word.Goals as goal
-
-pub returns-then-text-ne8 : goal.returns-then-text-ne8
-returns-then-text-ne8 c = search (rules, no_word_length)
-
-pub loop-byte-init : goal.loop-byte-init
-unfolding spelled
-loop-byte-init c = search rules
-
-pub overflow_mul-value : goal.overflow_mul-value
-overflow_mul-value c = search (rules, spelled_fits)
-
-pub returns-in_err-digit_value : goal.returns-in_err-digit_value
-returns-in_err-digit_value c = search (rules, no_word_digit)
-
--- the digit that was read
-found : (c : goal.After-from) → Some c.from.result ≡ digit (get_or c.args.text.now c.loop-byte.byte-index 0)
-found c = ap Some c.from.ensures ∙ c.in_ok-digit_value.ensures
-
-pub overflow_add-value : goal.overflow_add-value
-overflow_add-value c = let h = found c in search (rules, spelled_fits, digit_value_below)
 
 pub loop-byte-preserved : goal.loop-byte-preserved
 loop-byte-preserved c =
-    let h = found c in
-    let k : is_some (digit (get_or c.args.text.now c.loop-byte.byte-index 0)) ≡ true = ap is_some (sym h) in
-    search (rules, read_more, pass_more)
-
-pub returns : goal.returns
-returns c = search (rules, read_all)
+    let text = c.args.text.now in
+    let i = c.loop-byte.byte-index in
+    let l = c.loop-byte-test.true in
+    let read = digit_is c.from.result (Some c.in_ok-value.field-0) c.in_ok-value.ensures.value ∙ ap digit c.from.ensures in
+    let one : is_some (digit (get_or text i 0)) ≡ true = ap is_some (sym read) in (
+      read_more text i c.loop-byte.value c.in_ok-value.field-0 l read c.loop-byte.invariant.0,
+      rw (list_all_more (λ d. is_some (digit d)) text i 0 l, c.loop-byte.invariant.1, one),
+    )

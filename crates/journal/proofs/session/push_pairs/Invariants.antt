@@ -1,3 +1,4 @@
+-- Each turn adds the line of one pair more.
 use Rattle.std.proofs.Common.{◌≡◌, ◌++◌, take, string_bytes}
 use Rattle.journal.proofs.Printing.{pairs_text}
 use Rattle.journal.proofs.session.push_pairs.Given as goal

@@ -1,3 +1,4 @@
+-- Each turn adds the line of one room more.
 use Rattle.std.proofs.Common.{◌≡◌, ◌++◌, string_bytes}
 use Rattle.journal.proofs.Printing.{rooms_text}
 use Rattle.journal.proofs.session.push_rooms.Given as goal

@@ -1,3 +1,4 @@
+-- Each turn feeds one byte more.
 use Rattle.std.proofs.Common.{take, string_bytes}
 use Rattle.journal.specs.Sessions.{Fed}
 use Rattle.journal.proofs.session.Session.feed.Given as goal
