@@ -96,10 +96,10 @@ impl Fault {
         ensures { result ≡ (told self).room }
     {
         match self {
-            Fault::UnknownUse { room } => room,
-            Fault::NotInOrder { room, .. } => room,
-            Fault::NotClosed { room, .. } => room,
-            Fault::Looped { room, .. } => room,
+            Fault::UnknownUse { room }
+            | Fault::NotInOrder { room, .. }
+            | Fault::NotClosed { room, .. }
+            | Fault::Looped { room, .. } => room,
             _ => 0,
         }
     }

@@ -35,6 +35,8 @@ fn answer(board: &mut Board, line: &[u8]) -> Result<(), LineError>
     Ok(board.apply(call)?)
 }
 
+// Rooms and pairs keep a function each, since one for both would take an iterator, and its contract what any iterator yields: no plainer than two loops of a line. Each clause says what is added to `out`, which is another text each time.
+
 // A line for each held room.
 #[tactic(auto, using(crate::proofs::Printing::rooms_more))]
 fn push_rooms(board: &Board, out: &mut String) -> Result<(), AllocError>
