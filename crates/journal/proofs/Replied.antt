@@ -5,7 +5,7 @@ use Rattle.std.proofs.lemmas.List.FromFn.{fill_by_all, get_or-map-range_with_len
 use Rattle.std.proofs.lemmas.List.{get_or_append_left, get_or_push, flat_map_more, length_push, take-append-le, take_at}
 use Rattle.sheet.specs.Calls.{run, sheet_after}
 use Rattle.sheet.specs.Sheets.{empty}
-use Rattle.journal.proofs.Running.{run_append}
+use Rattle.sheet.proofs.Rules.{run_append}
 use Rattle.journal.specs.Cuts.{with_feed}
 use Rattle.journal.specs.Lines.{said}
 use Rattle.journal.specs.Replies.{Reply}

@@ -7,18 +7,15 @@ use Rattle.sheet.specs.Calls.{Call, after, edit, judged, run, sheet_after}
 use Rattle.sheet.specs.Sheets.{Sheet, empty}
 use Rattle.sheet.specs.declared.edit.Edit.{Edit}
 use Rattle.sheet.specs.declared.edit.Edit.TheVariants.{Enter}
+use Rattle.sheet.proofs.Rules.{run_append}
 use Rattle.journal.specs.Runs.{JudgedInOrder}
-
-pub run_append : (s : Sheet) (cs ds : List Call) → run s (cs ++ ds) ≡ run (run s cs) ds
-run_append s [] ds = refl
-run_append s (c ∷ cs) ds = run_append (after s c) cs ds
 
 abbrev pub made_by : List Edit → Sheet
 made_by es = sheet_after (map edit es)
 
 -- the sheet after one call more
-pub made_more : (es : List Edit) (i : ℕ) (d : Edit) → i < length es → made_by (take (i + 1) es) ≡ after (made_by (take i es)) (edit (get_or es i d))
-made_more es i d l =
+pub one_call_more : (es : List Edit) (i : ℕ) (d : Edit) → i < length es → made_by (take (i + 1) es) ≡ after (made_by (take i es)) (edit (get_or es i d))
+one_call_more es i d l =
     let e = get_or es i d in
     ap made_by (take_more es i d l) ∙ ap sheet_after (map_push edit (take i es) e) ∙ run_append empty (map edit (take i es)) (edit e ∷ [])
 

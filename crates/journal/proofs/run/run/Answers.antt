@@ -5,7 +5,7 @@ use Rattle.fault.specs.declared.Fault.{Fault}
 use Rattle.sheet.specs.Calls.{after, edit, judged}
 use Rattle.sheet.specs.Sheets.{Sheet}
 use Rattle.sheet.specs.declared.edit.Edit.TheVariants.{Enter}
-use Rattle.journal.proofs.Running.{judged_in_order, made_more}
+use Rattle.journal.proofs.Running.{judged_in_order, one_call_more}
 use Rattle.journal.proofs.run.run.Goals as goal
 
 pub loop-call-preserved : goal.loop-call-preserved
@@ -18,7 +18,7 @@ loop-call-preserved c =
     let r = c.apply.result in
     let at = λ (k : ℕ). ap (λ (xs : List (Result (Unit {0}) Fault)). get_or xs k (Ok tt)) c.in_ok-push.ensures.items in
     record {
-      sheet = c.apply.ensures.sheet ∙ ap (λ (s : Sheet). after s (edit e)) v.sheet ∙ sym (made_more es i (Enter 0) c.loop-call-test.true);
+      sheet = c.apply.ensures.sheet ∙ ap (λ (s : Sheet). after s (edit e)) v.sheet ∙ sym (one_call_more es i (Enter 0) c.loop-call-test.true);
       sound = c.apply.ensures.sound;
       as_many = omega (arith, c.in_ok-push.ensures.len);
       each = below_more _ _ (λ k l. at k ∙ get_or_append_left rs _ (Ok tt) k (omega arith) ∙ v.each k l)
