@@ -1,5 +1,5 @@
 -- A call leaves a board with its invariant: the sheet after it is sound and made by one call more.
-use Rattle.std.proofs.Common.{◌≡◌, ℕ, ◌+◌, ◌≤◌, length, Some, sym, ap, ◌∙◌, subst, arith}
+use Rattle.std.proofs.Common.{◌≡◌, ℕ, ◌+◌, ◌<◌, ◌≤◌, true, length, get_or, Some, sym, ap, ◌∙◌, subst, arith}
 use mathlib.Core.Logic.{∥∥₁_elim}
 use Rattle.std.specs.List.{position, remove}
 use Rattle.std.proofs.lemmas.List.{length_push}
@@ -61,13 +61,14 @@ module _ (b : Board) (t : Table) where
   )
 
   module _ (p : Pair) (k : ℕ) (h : position (same_pair p) (sheet_of b).pairs ≡ Some k) (e : sheet_in t ≡ with_pairs (sheet_of b) (remove (sheet_of b).pairs k)) where
+    at : (k < length (sheet_of b).pairs) × (same_pair p (get_or (sheet_of b).pairs k p) ≡ true)
+    at = let place = position-Some (same_pair p) (sheet_of b).pairs k p h in (place.0, place.1)
+
     pub struck : sheet_in t ≡ without_pair (sheet_of b) p
-    struck =
-        let at = position-Some (same_pair p) (sheet_of b).pairs k p h in
-        e ∙ ap (with_pairs (sheet_of b)) (removed_is_kept p (sheet_of b).pairs k (sound b).apart at.0 at.1)
+    struck = e ∙ ap (with_pairs (sheet_of b)) (removed_is_kept p (sheet_of b).pairs k (sound b).apart at.0 at.1)
 
     pub struck_counts : t.rooms ≡ b.table.rooms → t.marks + 1 ≡ b.table.marks → (length (sheet_in t).uses ≡ t.rooms) × (length (sheet_in t).pairs ≡ t.marks)
     struck_counts r m =
-        let n = length-remove (sheet_of b).pairs k (position-Some (same_pair p) (sheet_of b).pairs k p h).0 in
+        let n = length-remove (sheet_of b).pairs k at.0 in
         let c : length (sheet_in t).pairs ≡ length (remove (sheet_of b).pairs k) = ap (λ (s : Sheet). length s.pairs) e in
         (ap (λ (s : Sheet). length s.uses) e ∙ b.rooms ∙ sym r, omega (arith, b.marks))

@@ -1,7 +1,7 @@
 -- In a list where no two pairs join the same rooms, taking out one pair leaves the others in their order, and still no two join the same rooms.
-use Rattle.std.proofs.Common.{◌≡◌, ℕ, zero, suc, ◌<◌, ◌≤◌, Bool, true, false, cond, not, ◌⊎◌, List, [], ◌∷◌, ◌++◌, length, get_or, Some, None, filter, sym, refl, ap, ◌∙◌, inl, inr, ⊎_elim, arith, lit≤}
+use Rattle.std.proofs.Common.{◌≡◌, ℕ, zero, suc, ◌<◌, Bool, true, false, cond, not, ◌⊎◌, List, [], ◌∷◌, ◌++◌, length, get_or, Some, filter, sym, refl, ap, ◌∙◌, inl, inr, ⊎_elim, arith}
 use Rattle.std.specs.List.{list_any, slice_get, remove}
-use Rattle.std.proofs.lemmas.Option.{slice_get-get_or}
+use Rattle.std.proofs.lemmas.Option.{none-some, same_Some, slice_get-get_or}
 use Rattle.std.proofs.lemmas.Bool.{both_ways, cases_Bool, cond_both, not_from_false, or_parts}
 use Rattle.std.proofs.lemmas.Bool.Decides.{nat_tests}
 use Rattle.sheet.specs.Sheets.{same_pair, same_rooms}
@@ -10,12 +10,6 @@ use Rattle.sheet.specs.declared.pair.Pair.{Pair}
 -- no two join the same two rooms
 abbrev pub Apart : List Pair → Type 0
 Apart ps = (i j : ℕ) (p q : Pair) → slice_get ps i ≡ Some p → slice_get ps j ≡ Some q → same_rooms p q ≡ true → i ≡ j
-
-pub none_some : {X : Type 0} {P : Type 0} (x : X) → None ≡ Some x → P
-none_some {X} {P} x e = absurd (let z : ◌≡◌ {A = ℕ} 0 1 = cc in omega arith)
-
-same_some : {X : Type 0} (x y : X) → Some x ≡ Some y → x ≡ y
-same_some x y e = cc
 
 pub rooms_flip : (p q : Pair) → same_rooms p q ≡ true → same_rooms q p ≡ true
 rooms_flip p q h = grind (arith, nat_tests)
@@ -26,19 +20,19 @@ rooms_from_pairs p q r h k = grind (arith, nat_tests)
 -- ---- lists by place
 module _ {X : Type 0} where
   pub nth_push : (xs : List X) (x : X) (i : ℕ) (y : X) → slice_get (xs ++ x ∷ []) i ≡ Some y → (slice_get xs i ≡ Some y) ⊎ ((i ≡ length xs) × (x ≡ y))
-  nth_push [] x zero y e = inr (refl, same_some x y e)
-  nth_push [] x (suc i) y e = none_some y e
+  nth_push [] x zero y e = inr (refl, same_Some x y e)
+  nth_push [] x (suc i) y e = absurd (none-some y e)
   nth_push (z ∷ zs) x zero y e = inl e
   nth_push (z ∷ zs) x (suc i) y e = ⊎_elim (λ h. inl h) (λ h. inr (ap suc h.0, h.1)) (nth_push zs x i y e)
 
   pub any_false : (t : X → Bool) (xs : List X) (i : ℕ) (x : X) → list_any t xs ≡ false → slice_get xs i ≡ Some x → t x ≡ false
-  any_false t [] i x h e = none_some x e
-  any_false t (y ∷ ys) zero x h e = ap t (sym (same_some y x e)) ∙ (or_parts (t y) (list_any t ys) h).0
+  any_false t [] i x h e = absurd (none-some x e)
+  any_false t (y ∷ ys) zero x h e = ap t (sym (same_Some y x e)) ∙ (or_parts (t y) (list_any t ys) h).0
   any_false t (y ∷ ys) (suc i) x h e = any_false t ys i x (or_parts (t y) (list_any t ys) h).1 e
 
   -- what a filter keeps was there
   pub kept_from : (t : X → Bool) (xs : List X) (i : ℕ) (x : X) → slice_get (filter t xs) i ≡ Some x → (k : ℕ) × (slice_get xs k ≡ Some x)
-  kept_from t [] i x e = none_some x e
+  kept_from t [] i x e = absurd (none-some x e)
   kept_from t (y ∷ ys) i x e = go (t y) i e (kept_from t ys)
     where
       go : (b : Bool) (j : ℕ) → slice_get (cond b (y ∷ filter t ys) (filter t ys)) j ≡ Some x → ((k : ℕ) (z : X) → slice_get (filter t ys) k ≡ Some z → (m : ℕ) × (slice_get ys m ≡ Some z)) → (k : ℕ) × (slice_get (y ∷ ys) k ≡ Some x)
@@ -51,12 +45,6 @@ module _ {X : Type 0} where
   kept_all t [] h = refl
   kept_all t (y ∷ ys) h = rw (h zero y refl) (ap (λ (l : List X). y ∷ l) (kept_all t ys (λ i x e. h (suc i) x e)))
 
-  pub kept_length : (t : X → Bool) (xs : List X) → length (filter t xs) ≤ length xs
-  kept_length t [] = lit≤ tt
-  kept_length t (y ∷ ys) =
-      let h = kept_length t ys in
-      cond_both (t y) (y ∷ filter t ys) (filter t ys) (λ (l : List X). length l ≤ length (y ∷ ys)) (λ _. omega arith) (λ _. omega arith)
-
 -- ---- pairs that are apart
 module _ (p : Pair) (ps : List Pair) where
   pub apart_tail : Apart (p ∷ ps) → Apart ps
@@ -68,9 +56,9 @@ module _ (p : Pair) (ps : List Pair) where
 pub apart_cons : (p : Pair) (ps : List Pair) → ((j : ℕ) (q : Pair) → slice_get ps j ≡ Some q → same_rooms p q ≡ true → ⊥) → Apart ps → Apart (p ∷ ps)
 apart_cons p ps head tail zero zero q r e f k = refl
 apart_cons p ps head tail zero (suc j) q r e f k =
-    absurd (head j r f (ap (λ (x : Pair). same_rooms x r) (same_some p q e) ∙ k))
+    absurd (head j r f (ap (λ (x : Pair). same_rooms x r) (same_Some p q e) ∙ k))
 apart_cons p ps head tail (suc i) zero q r e f k =
-    absurd (head i q e (rooms_flip q p (ap (same_rooms q) (same_some p r f) ∙ k)))
+    absurd (head i q e (rooms_flip q p (ap (same_rooms q) (same_Some p r f) ∙ k)))
 apart_cons p ps head tail (suc i) (suc j) q r e f k = ap suc (tail i j q r e f k)
 
 pub apart_kept : (t : Pair → Bool) (ps : List Pair) → Apart ps → Apart (filter t ps)

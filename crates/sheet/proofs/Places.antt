@@ -4,7 +4,7 @@ use Rattle.std.specs.List.{list_any, position, position_from}
 use Rattle.std.proofs.lemmas.Iterator.Adapters.{position_from-zero}
 use Rattle.std.proofs.lemmas.List.Folds.{list_any_at}
 use Rattle.std.proofs.lemmas.List.Quantifiers.{position-Some}
-use Rattle.sheet.proofs.Pairs.{none_some}
+use Rattle.std.proofs.lemmas.Option.{none-some}
 
 module _ {X : Type 0} (p : X → Bool) (xs : List X) where
   pub passes_somewhere : (i : ℕ) (d : X) → position p xs ≡ Some i → list_any p xs ≡ true
@@ -15,7 +15,7 @@ from_here p i [] e = refl
 from_here p i (x ∷ xs) e = go (p x) e (from_here p (i + 1) xs)
   where
     go : (b : Bool) → cond b (Some i) (position_from p (i + 1) xs) ≡ None → (position_from p (i + 1) xs ≡ None → list_any p xs ≡ false) → (b || list_any p xs) ≡ false
-    go true f more = none_some i (sym f)
+    go true f more = absurd (none-some i (sym f))
     go false f more = more f
 
 pub passes_nowhere : {X : Type 0} (p : X → Bool) (xs : List X) → position p xs ≡ None → list_any p xs ≡ false

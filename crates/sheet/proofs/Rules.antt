@@ -4,6 +4,8 @@ use mathlib.Core.Logic.{∥∥₁_map}
 use Rattle.std.specs.List.{AllByRecursion}
 use Rattle.std.proofs.ByRecursion.{All-push, All-weaker, all_kept_by}
 use Rattle.std.proofs.lemmas.List.{length_push}
+use Rattle.std.proofs.lemmas.List.Sums.{count_by-le-length, length-filter}
+use Rattle.std.proofs.lemmas.Option.{none-some}
 use Rattle.std.proofs.lemmas.Bool.{cases_Bool, cond_both, eqb-false, leb-false, not-false}
 use Rattle.std.proofs.lemmas.Bool.Decides.{nat_tests}
 use Rattle.sheet.specs.Calls.{Call, after, done, draw, edit, judged, refusals, run, sheet_after}
@@ -13,7 +15,7 @@ use Rattle.sheet.specs.Words.{is_pair, is_room, pair_fits, pair_in, room_fits, u
 use Rattle.sheet.specs.declared.edit.Edit.{Edit}
 use Rattle.sheet.specs.declared.edit.Edit.TheVariants.{Enter, Strike}
 use Rattle.sheet.specs.declared.pair.Pair.{Pair}
-use Rattle.sheet.proofs.Pairs.{apart_kept, apart_push, kept_length, none_some}
+use Rattle.sheet.proofs.Pairs.{apart_kept, apart_push}
 use Rattle.sheet.proofs.Replies.{none_applies}
 
 use_within : (w : ℕ) → room_fits w ≡ true → Within 1 255 (use_in w)
@@ -50,7 +52,8 @@ sound_pair s p h l k j =
 pub sound_without : (s : Sheet) (p : Pair) → Sound s → Sound (without_pair s p)
 sound_without s p h =
     let t : Pair → Bool = λ q. not (same_pair p q) in
-    let n = kept_length t s.pairs in
+    let n = count_by-le-length t s.pairs in
+    let l = length-filter t s.pairs in
     let m = h.few_pairs in record {
       few_rooms = h.few_rooms;
       few_pairs = omega arith;
@@ -97,7 +100,7 @@ sound_run s (c ∷ cs) h = sound_run (after s c) cs (sound_after s c h)
 
 pub always_sound : (calls : List Call) → Sound (sheet_after calls)
 always_sound cs =
-    sound_run empty cs (record { few_rooms = lit≤ tt; few_pairs = lit≤ tt; uses = tt; pairs = tt; apart = λ i j p q e f k. none_some p e })
+    sound_run empty cs (record { few_rooms = lit≤ tt; few_pairs = lit≤ tt; uses = tt; pairs = tt; apart = λ i j p q e f k. absurd (none-some p e) })
 
 -- ---- a list of calls made it
 abbrev pub Made : Sheet → Type 0

@@ -49,6 +49,6 @@ impl Pair {
         ensures value { result ≡ word_of self }
         ensures says { SaysPair result self }
     {
-        ((self.direction as u32) << 28) + u32::from(self.first) * 256 + u32::from(self.second)
+        u32::from_be_bytes([(self.direction as u8) << 4, 0, self.first, self.second])
     }
 }

@@ -1,6 +1,6 @@
 // The arrays of a board: the uses of its rooms and its pairs, each with how many there are.
 // No other crate sees the table. What its methods require is what the board's invariant says.
-// Kept as plain arrays with counts, and `add_room` beside `add_pair`: the rule on the board's memory (docs/DECISIONS.md) asks for arrays of the greatest sizes in a table without an invariant.
+// Plain arrays with counts beside, and `add_room` beside `add_pair`: a rule of the project (docs/DECISIONS.md, the board's memory) asks for repeated arrays of the greatest sizes in a table without an invariant.
 ghost use Rattle.std.specs.Prelude.{◌≡◌, ◌+◌, ◌<◌, ◌≤◌, Some};
 ghost use Rattle.std.specs.List.{slice_get, remove};
 ghost use Rattle.sheet.specs.Sheets.{empty, with_pair, with_room};

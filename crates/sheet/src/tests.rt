@@ -115,7 +115,7 @@ fn holds_200_rooms(rt: HostRuntime) -> Result<(), Fail> {
     assert_eq!(rt; board.enter(0x1000_0000), Err(Fault::OutOfRange));
     assert_eq!(rt; board.rooms(), 200);
     for room in 1..=200u8 {
-        assert_eq!(rt; board.use_of(room as usize), Some(room));
+        assert_eq!(rt; board.use_of(usize::from(room)), Some(room));
     }
     assert_eq!(rt; board.use_of(201), None);
     refused(&rt, &mut board, 0x2000_01c9, Fault::OutOfRange);

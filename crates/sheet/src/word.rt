@@ -54,20 +54,20 @@ impl Table {
     fn pair_in_range(&self, word: u32) -> bool
         ensures { result ≡ pair_fits self.now.rooms word }
     {
-        word % (1 << 28) < 1 << 16
-            && self.is_held((word / 256 % 256) as u8)
-            && self.is_held((word % 256) as u8)
+        let [_, _, first, second] = word.to_be_bytes();
+        word % (1 << 28) < 1 << 16 && self.is_held(first) && self.is_held(second)
     }
 
     // The pair that a word says.
     pub fn read_pair(&self, word: u32) -> Result<Pair, Fault>
         ensures { MatchResult result (PairRead self.now.rooms word) (PairUnread self.now.rooms word) }
     {
+        let [_, _, first, second] = word.to_be_bytes();
         match Kind::try_from(word >> 28)? {
             Kind::PairWord(direction) if self.pair_in_range(word) => Ok(Pair {
                 direction,
-                first: (word / 256 % 256) as u8,
-                second: (word % 256) as u8,
+                first,
+                second,
             }),
             Kind::PairWord(_) => Err(Fault::OutOfRange),
             Kind::RoomWord => Err(Fault::WrongKind),
@@ -81,7 +81,7 @@ impl Table {
         match Kind::try_from(word >> 28)? {
             Kind::RoomWord if room_in_range(word) => Ok(Entry::Room((word % 256) as u8)),
             Kind::RoomWord => Err(Fault::OutOfRange),
-            Kind::PairWord(_) => Ok(Entry::Touch(self.read_pair(word)?)),
+            Kind::PairWord(_) => self.read_pair(word).map(Entry::Touch),
         }
     }
 }

@@ -27,7 +27,7 @@ impl Board {
         }
     }
 
-    // What a call leaves and what it answers stay two clauses of each call: they speak of two states, which no type can carry.
+    // Each call says what it leaves and what it answers in two clauses of its own: they speak of two states, so a type or an invariant to carry them would be no plainer.
 
     // Adds the room or pair that the word says at the end.
     pub fn enter(&mut self, word: u32) -> Result<(), Fault>
@@ -97,7 +97,7 @@ impl Board {
         }
     }
 
-    // The readers of rooms and of pairs stay side by side: a generic one would have to be told which of the two lists it reads, and is no plainer.
+    // Rooms and pairs have readers of their own: a generic one would have to be told which of the two lists it reads, and is no plainer.
 
     // How many rooms are held.
     pub fn rooms(&self) -> usize

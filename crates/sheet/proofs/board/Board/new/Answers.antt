@@ -1,4 +1,4 @@
--- No call at all makes the empty sheet.
+-- No call at all makes the empty sheet. The check finds it too; a rule of the project keeps it: without it the edit board_new is refused at a limit of the search, and not at a fact.
 use Rattle.std.proofs.Common.{[], length, sym, ap, ◌∙◌, subst, arith}
 use Rattle.sheet.specs.Sheets.{Sheet}
 use Rattle.sheet.specs.Sound.{Sound}

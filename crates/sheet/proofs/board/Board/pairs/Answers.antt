@@ -1,4 +1,4 @@
--- The count is the length of its list, by the board's invariant.
+-- The count is the length of its list, by the board's invariant. The check finds it too; a rule of the project keeps it: without it the edit board_pairs is refused at a limit of the search, and not at a fact.
 use Rattle.std.proofs.Common.{arith}
 use Rattle.sheet.proofs.board.Board.pairs.Goals as goal
 

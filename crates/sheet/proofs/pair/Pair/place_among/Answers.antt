@@ -1,4 +1,4 @@
--- Two pairs compare equal exactly when they are the same mark of the same rooms.
+-- Two pairs compare equal exactly when they are the same mark of the same rooms. The check finds it too; a rule of the project keeps it: without it the edit pair_is_same is refused at a limit of the search, and not at a fact.
 use Rattle.std.proofs.Common.{rules}
 use borrow.Author.Tests.{tests}
 use Rattle.std.proofs.lemmas.Iterator.{YieldsList-from_slice}

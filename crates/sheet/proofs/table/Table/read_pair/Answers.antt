@@ -13,7 +13,7 @@ returns-in_err-direction c =
 pub returns-in-PairWord : goal.returns-in-PairWord
 returns-in-PairWord c =
     let k = pair_word c.args.word c.ranges.word.fits c.in-PairWord.direction (rw c.in-PairWord.is at c.in_ok-direction.ensures) in
-    (k.1, sym c.if-pair_in_range.ensures, k.2)
+    (k.1, sym c.if-pair_in_range.ensures, rw c.to_be_bytes.ensures k.2)
 
 pub returns-in-PairWord-2 : goal.returns-in-PairWord-2
 returns-in-PairWord-2 c =
