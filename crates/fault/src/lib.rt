@@ -68,7 +68,7 @@ pub enum Fault {
 }
 
 impl Fault {
-    // The refusal's number. Replies print it, so it stays a number, and variants with fields have no discriminant to read.
+    // The refusal's number, which replies print. A table by hand: variants with fields have no discriminant to read, so no other form is plainer.
     pub fn number(self) -> u8
         ensures { result ≡ (told self).number }
     {

@@ -12,6 +12,7 @@ fn read_word(text: &[u8]) -> Option<u32>
     if text.len() != 8 {
         return None;
     }
+    // digit by digit: `from_str_radix` takes a sign too, and the bytes of the kit's `hex` would have to be put together again, which is no plainer
     let mut value: u32 = 0;
     for byte in text {
         value = value * 16 + char::from(*byte).to_digit(16)?;

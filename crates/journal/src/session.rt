@@ -10,7 +10,7 @@ ghost use Rattle.journal.specs.Transcripts.{answered, called, pair_lines, room_l
 use crate::line::read_line;
 use crate::reply::LineError;
 use crate::tally::Tally;
-use crate::text::{HeldPair, HeldRoom, Summary, push_line, push_reply};
+use crate::text::{HeldPair, HeldRoom, ReplyLine, Summary, push_line};
 use arrayvec::ArrayVec;
 use sheet::board::Board;
 use std::alloc::{AllocError, Global};
@@ -35,7 +35,7 @@ fn answer(board: &mut Board, line: &[u8]) -> Result<(), LineError>
     Ok(board.apply(call)?)
 }
 
-// Rooms and pairs keep a function each, since one for both would take an iterator, and its contract what any iterator yields: no plainer than two loops of a line. Each clause says what is added to `out`, which is another text each time.
+// Rooms and pairs have a function each: one for both would take an iterator, and its contract what any iterator yields, which is no plainer than two loops of a line.
 
 // A line for each held room.
 #[tactic(auto, using(crate::proofs::Printing::rooms_more))]
@@ -98,7 +98,7 @@ impl Session {
         let reply = answer(&mut self.board, self.line.as_slice());
         self.tally.note(reply);
         self.line.clear();
-        push_reply(out, reply)
+        push_line(out, &ReplyLine(reply))
     }
 
     // The text ends here: a last line without its line feed counts, and the sheet and the summary follow.

@@ -2,7 +2,7 @@
 use crate::reply::LineError;
 use crate::run::run;
 use crate::session::{Session, replay};
-use crate::text::push_reply;
+use crate::text::{ReplyLine, push_line};
 use fault::Fault;
 use sheet::edit::Edit;
 use std::test::Fail;
@@ -81,9 +81,9 @@ fn replies_come_in_order(rt: HostRuntime) -> Result<(), Fail> {
 #[test]
 fn a_reply_is_a_line(rt: HostRuntime) -> Result<(), Fail> {
     let mut out = String::new(rt.alloc());
-    push_reply(&mut out, Ok(()))?;
-    push_reply(&mut out, Err(LineError::Refused(Fault::OutOfRange)))?;
-    push_reply(&mut out, Err(LineError::Unreadable))?;
+    push_line(&mut out, &ReplyLine(Ok(())))?;
+    push_line(&mut out, &ReplyLine(Err(Fault::OutOfRange.into())))?;
+    push_line(&mut out, &ReplyLine(Err(LineError::Unreadable)))?;
     assert_eq!(rt; out.as_str(), "ok\nfault 2 0 0\nunreadable\n");
     Ok(())
 }

@@ -1,12 +1,26 @@
 // The lines that a journal prints.
 ghost use Rattle.std.specs.Prelude.{◌≡◌, [], ◌∷◌, ◌++◌, IfSome, Some, string_bytes, OnOk};
-ghost use Rattle.journal.specs.Cuts.{with_feed};
 ghost use Rattle.journal.specs.Texts.{held_text, pair_text, reply_text, summary_text};
 
 use crate::reply::LineError;
 use crate::tally::Tally;
 use std::alloc::AllocError;
 use std::fmt;
+
+// The line that tells a reply.
+#[derive(Clone, Copy)]
+pub struct ReplyLine(pub Result<(), LineError>);
+
+impl fmt::Display for ReplyLine {
+    ghost output = { λ l. Some (reply_text l.0) };
+
+    fn fmt<W: fmt::Write>(&self, f: &mut fmt::Formatter<W>) -> fmt::Result {
+        match self.0 {
+            Ok(()) => write!(f, "ok"),
+            Err(error) => write!(f, "{error}"),
+        }
+    }
+}
 
 // The last line: how many calls were made, and what the sheet holds.
 #[derive(Clone, Copy)]
@@ -59,19 +73,9 @@ impl fmt::Display for HeldPair {
     }
 }
 
-// Appends what `{}` writes of `line`, and a line end. Where memory fails, nothing is said of `out`.
+// Appends what `{}` writes of `line`, and a line end. Where memory fails, nothing is said of `out`. Each call that adds to a text says in its clause what it adds, which is another text each time; a type to carry it would be no plainer.
 pub fn push_line<T: fmt::Display>(out: &mut String, line: &T) -> Result<(), AllocError>
     ensures { OnOk result (IfSome (T.Display.output line.now) (λ bs. string_bytes out.new ≡ string_bytes out.old ++ (bs ++ (10 ∷ [])))) }
 {
     writeln!(out, "{line}")
-}
-
-// Appends the line that tells a reply. Where memory fails, nothing is said of `out`.
-pub fn push_reply(out: &mut String, reply: Result<(), LineError>) -> Result<(), AllocError>
-    ensures { OnOk result (string_bytes out.new ≡ string_bytes out.old ++ with_feed (reply_text reply)) }
-{
-    match reply {
-        Ok(()) => writeln!(out, "ok"),
-        Err(error) => writeln!(out, "{error}"),
-    }
 }

@@ -7,6 +7,7 @@ use crate::books::{FlatBook, HouseBook, PartitionBook};
 use crate::lengths::{Millimetres, PartitionLength};
 use fault::Fault;
 use std::cmp::Ordering;
+use std::fmt::Debug;
 use std::process::Abort;
 use std::test::Fail;
 
@@ -90,15 +91,16 @@ fn sums_end_at_the_greatest_extent(rt: HostRuntime) -> Result<(), Fail> {
 
 #[test]
 fn zero_changes_nothing(rt: HostRuntime) -> Result<(), Fail> {
-    let zero = Millimetres::zero();
-    assert_eq!(rt; zero, mm(0)?);
-    assert_eq!(rt; zero.add(mm(7)?), Some(mm(7)?));
-    assert_eq!(rt; mm(7)?.add(zero), Some(mm(7)?));
-    let none = PartitionLength::zero();
-    assert_eq!(rt; none, crossing((0, 0))?);
-    assert_eq!(rt; none.add(crossing((7, 3))?), Some(crossing((7, 3))?));
-    assert_eq!(rt; crossing((7, 3))?.add(none), Some(crossing((7, 3))?));
+    is_neutral(&rt, mm(0)?, mm(7)?);
+    is_neutral(&rt, crossing((0, 0))?, crossing((7, 3))?);
     Ok(())
+}
+
+// `zero` is the zero of its measure, and adding it to `x` at either end gives `x`.
+fn is_neutral<M: Measure + Debug>(rt: &impl Abort, zero: M, x: M) {
+    assert_eq!(rt; M::zero(), zero);
+    assert_eq!(rt; zero.add(x), Some(x));
+    assert_eq!(rt; x.add(zero), Some(x));
 }
 
 #[test]

@@ -12,7 +12,7 @@ fn main(rt: HostRuntime) -> io::Result<()> {
     let mut session = Session::new();
     let mut bytes = vec![in rt.alloc(); 0u8; CHUNK]?;
     let mut out = String::new(rt.alloc());
-    // reading has no end that a proof could know, and a counted loop is one that is proved to end
+    // A counted loop: a rule of the project allows no wait without end, and no other form of a loop over input is proved to end.
     for _ in 0..u64::MAX {
         let count = rt.stdin().read(&mut bytes)?;
         if count == 0 {

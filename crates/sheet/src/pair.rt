@@ -44,7 +44,7 @@ impl Pair {
         held.iter().position(|other| self == *other)
     }
 
-    // The word that enters this pair, and strikes it: it says this pair and no other. A method and no `From`: `u32::from(pair)` would not say that the number is a word.
+    // The word that enters this pair, and strikes it: it says this pair and no other. A method: `u32::from(pair)` would not say that the number is a word, and is no plainer.
     pub fn word(self) -> u32
         ensures value { result ≡ word_of self }
         ensures says { SaysPair result self }

@@ -29,7 +29,7 @@ impl Book for HouseBook {
 
     ghost unused = { λ b. refl };
 
-    // Uses stay numbers: a word carries any from 1 to 255, and what one means is no matter of a book.
+    // By the numbers of uses, as words carry them: an enum of six uses would say each number a second time and is no plainer.
     fn lookup(&self, purpose: u8) -> Option<Size<Millimetres>> {
         match purpose {
             1 => Some(size(1200, 1200)),

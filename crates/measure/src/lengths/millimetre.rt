@@ -13,7 +13,7 @@ use fault::Fault;
 use std::fmt;
 
 impl Millimetres {
-    // So many millimetres, or out of range. `new` and no `TryFrom`, as for partition lengths, which two figures make: a pair of numbers to convert is no plainer.
+    // So many millimetres, or out of range. A constructor, as of the other length: `TryFrom` of one figure here and of a pair of figures there is no plainer.
     pub fn new(figure: u32) -> Result<Millimetres, Fault>
         ensures { Made millimetres figure_of figure result }
     {

@@ -27,7 +27,7 @@ fn distance(clear: u32, partitions: u32) -> u64
 }
 
 impl PartitionLength {
-    // So many millimetres in the clear and so many partitions, or out of range.
+    // So many millimetres in the clear and so many partitions, or out of range. A constructor of two named figures: `TryFrom` of a pair is no plainer.
     pub fn new(clear: u32, partitions: u32) -> Result<PartitionLength, Fault>
         ensures { Made crossings crossing_of (crossing clear partitions) result }
     {

@@ -15,6 +15,6 @@ returns c =
     let k : Session = record { board = c.answer-reply.new.board; tally = c.note.new.self; line = c.clear.new.self } in
     let is = c.answer-reply.ensures.reply ∙ ap (λ (x : List ℕ). answered (sheet_of j.board) (said x)) c.as_slice.ensures.value in
     let s = c.answer-reply.ensures.sheet ∙ ap (λ (x : List ℕ). run (sheet_of j.board) (called (said x))) c.as_slice.ensures.value in
-    IfOk-weaker c.push_reply.result _ _
-    (λ _ o. fed_end j k c.answer-reply.result (string_bytes c.args.out.now) is s c.note.ensures c.clear.ensures (string_bytes c.push_reply.new.out) o)
-    c.push_reply.ensures
+    IfOk-weaker c.push_line.result _ _
+    (λ _ o. fed_end j k c.answer-reply.result (string_bytes c.args.out.now) is s c.note.ensures c.clear.ensures (string_bytes c.push_line.new.out) o)
+    c.push_line.ensures
