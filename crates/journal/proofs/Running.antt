@@ -1,9 +1,9 @@
 -- One call more at the end is made on the sheet that the calls before it made.
-use Rattle.std.proofs.Common.{◌≡◌, ℕ, ◌+◌, ◌<◌, List, [], ◌∷◌, ◌++◌, map, length, get_or, take, Some, Ok, Result, refl, ap, ◌∙◌, arith}
+use Rattle.std.proofs.Common.{◌≡◌, ℕ, ◌+◌, ◌<◌, List, [], ◌∷◌, map, length, get_or, take, Some, Ok, Result, ap, ◌∙◌, arith}
 use Rattle.std.proofs.lemmas.List.{map_push, take_more}
 use Rattle.std.proofs.lemmas.Option.{get_or_from_slice_get, slice_get-get_or, slice_get_within}
 use Rattle.fault.specs.declared.Fault.{Fault}
-use Rattle.sheet.specs.Calls.{Call, after, edit, judged, run, sheet_after}
+use Rattle.sheet.specs.Calls.{after, edit, judged, sheet_after}
 use Rattle.sheet.specs.Sheets.{Sheet, empty}
 use Rattle.sheet.specs.declared.edit.Edit.{Edit}
 use Rattle.sheet.specs.declared.edit.Edit.TheVariants.{Enter}
