@@ -78,8 +78,9 @@ impl Table {
     pub fn read_entry(&self, word: u32) -> Result<Entry, Fault>
         ensures { MatchResult result (Read self.now.rooms word) (Unread self.now.rooms word) }
     {
+        let [_, _, _, purpose] = word.to_be_bytes();
         match Kind::try_from(word >> 28)? {
-            Kind::RoomWord if room_in_range(word) => Ok(Entry::Room((word % 256) as u8)),
+            Kind::RoomWord if room_in_range(word) => Ok(Entry::Room(purpose)),
             Kind::RoomWord => Err(Fault::OutOfRange),
             Kind::PairWord(_) => self.read_pair(word).map(Entry::Touch),
         }

@@ -13,7 +13,7 @@ returns-in_err-try_from c =
 pub returns-in-RoomWord : goal.returns-in-RoomWord
 returns-in-RoomWord c =
     let k = room_word c.args.word c.ranges.word.fits (rw c.in-RoomWord.is at c.in_ok-try_from.ensures) in
-    (k.0, sym c.if-room_in_range.ensures, omega arith)
+    (k.0, sym c.if-room_in_range.ensures, rw c.to_be_bytes.ensures (omega arith))
 
 pub returns-in-RoomWord-2 : goal.returns-in-RoomWord-2
 returns-in-RoomWord-2 c =
