@@ -23,6 +23,7 @@ pub struct Table {
 }
 
 impl Table {
+    // Blank arrays, and counts of 0. A constructor, as of the board: a default would have to be written by hand too, which is no plainer.
     pub fn new() -> Table
         ensures sheet { sheet_in result ≡ empty }
         ensures rooms { result.rooms ≡ 0 }
