@@ -91,7 +91,7 @@ impl Fault {
         }
     }
 
-    // The room that it names, or 0.
+    // The room that it names, or 0 for none, as replies print it: an `Option` would be turned back into 0, and is no plainer.
     pub fn room(self) -> u8
         ensures { result ≡ (told self).room }
     {
@@ -104,7 +104,7 @@ impl Fault {
         }
     }
 
-    // The number of the side, corner or axis that it names, or 0.
+    // The number of the side, corner or axis that it names, or 0 for none, in the same way.
     pub fn spot(self) -> u8
         ensures { result ≡ (told self).spot }
     {

@@ -35,7 +35,7 @@ fn answer(board: &mut Board, line: &[u8]) -> Result<(), LineError>
     Ok(board.apply(call)?)
 }
 
-// Rooms and pairs have a function each: one for both would take an iterator, and its contract what any iterator yields, which is no plainer than two loops of a line.
+// Rooms and pairs have a function each: one for both would take an iterator, and its contract would have to say what that yields, which is no plainer than two short loops.
 
 // A line for each held room.
 #[tactic(auto, using(crate::proofs::Printing::rooms_more))]
@@ -65,7 +65,7 @@ fn push_pairs(board: &Board, out: &mut String) -> Result<(), AllocError>
 }
 
 impl Session {
-    // A session with a fresh board, to which nothing was fed.
+    // A session with a fresh board, to which nothing was fed. A constructor, as of the board: its contract says what it makes, and a default that one derives is no plainer.
     pub fn new() -> Session
         ensures { After result [] }
     {

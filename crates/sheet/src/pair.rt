@@ -5,7 +5,7 @@ ghost use Rattle.sheet.specs.Sheets.{same_pair, same_rooms};
 ghost use Rattle.sheet.specs.Laws.{SaysPair};
 ghost use Rattle.sheet.specs.Words.{word_of};
 
-// Its number is the kind of the words that say such a pair.
+// Which room lies where. The number is the kind of the words that say such a pair.
 #[derive(Clone, Copy, PartialEq, Eq, Debug)]
 pub enum Direction {
     // the first room lies west of the second

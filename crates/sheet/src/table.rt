@@ -1,6 +1,6 @@
 // The arrays of a board: the uses of its rooms and its pairs, each with how many there are.
 // No other crate sees the table. What its methods require is what the board's invariant says.
-// Plain arrays with counts beside, and `add_room` beside `add_pair`: a rule of the project (docs/DECISIONS.md, the board's memory) asks for repeated arrays of the greatest sizes in a table without an invariant.
+// Plain arrays with counts beside, and `add_room` beside `add_pair`: a rule of the project (docs/DECISIONS.md, the board's memory) asks for repeated arrays of the greatest sizes in a table without an invariant. So each method says in its contract what it does to the counts.
 ghost use Rattle.std.specs.Prelude.{◌≡◌, ◌+◌, ◌<◌, ◌≤◌, Some};
 ghost use Rattle.std.specs.List.{slice_get, remove};
 ghost use Rattle.sheet.specs.Sheets.{empty, with_pair, with_room};
@@ -23,6 +23,7 @@ pub struct Table {
 }
 
 impl Table {
+    // Blank arrays, and counts of 0. A constructor, as of the board: a default would have to be written by hand too, which is no plainer.
     pub fn new() -> Table
         ensures sheet { sheet_in result ≡ empty }
         ensures rooms { result.rooms ≡ 0 }

@@ -247,7 +247,7 @@ fn ends(rt: &impl Abort, board: &Board, rooms: usize, pairs: usize) {
         assert_eq!(rt; board.use_of(room), None);
     }
     for place in [board.pairs(), usize::MAX] {
-        assert!(rt; board.pair(place).is_none());
+        assert_eq!(rt; board.pair(place), None);
         assert_eq!(rt; board.pair_word(place), None);
     }
 }
@@ -260,24 +260,25 @@ fn reads_nothing_out_of_range(rt: HostRuntime) -> Result<(), Fail> {
     Ok(())
 }
 
+fn pair(direction: Direction, first: u8, second: u8) -> Pair {
+    Pair {
+        direction,
+        first,
+        second,
+    }
+}
+
 #[test]
 fn pairs_have_words(rt: HostRuntime) -> Result<(), Fail> {
     let mut board = joined()?;
     assert_eq!(rt; board.enter(0x1000_000b), Ok(()));
     assert_eq!(rt; board.enter(0x3000_0301), Ok(()));
-    let beside = board.pair(0).ok_or("no pair")?;
-    let above = board.pair(1).ok_or("no pair")?;
-    assert_eq!(rt; beside.direction, Direction::Beside);
-    assert_eq!(rt; [beside.first, beside.second], [1, 2]);
-    assert_eq!(rt; above.direction, Direction::Above);
-    assert_eq!(rt; [above.first, above.second], [3, 1]);
+    let beside = pair(Direction::Beside, 1, 2);
+    let above = pair(Direction::Above, 3, 1);
+    assert_eq!(rt; board.pair_list(), [beside, above].as_slice());
+    assert_eq!(rt; [board.pair(0), board.pair(1)], [Some(beside), Some(above)]);
     assert_eq!(rt; [beside.word(), above.word()], [0x2000_0102, 0x3000_0301]);
-    let ends = Pair {
-        direction: Direction::Above,
-        first: 255,
-        second: 0,
-    };
-    assert_eq!(rt; ends.word(), 0x3000_ff00);
+    assert_eq!(rt; pair(Direction::Above, 255, 0).word(), 0x3000_ff00);
     Ok(())
 }
 
@@ -290,11 +291,7 @@ fn is_same(a: Pair, b: Pair) -> bool
 
 #[test]
 fn pairs_are_told_apart(rt: HostRuntime) {
-    let held = Pair {
-        direction: Direction::Beside,
-        first: 1,
-        second: 2,
-    };
+    let held = pair(Direction::Beside, 1, 2);
     let rows = [
         (Direction::Beside, 1, 2, true, true),
         (Direction::Above, 1, 2, true, false),
@@ -306,12 +303,8 @@ fn pairs_are_told_apart(rt: HostRuntime) {
         (Direction::Beside, 2, 2, false, false),
     ];
     for (direction, first, second, joins, same) in rows {
-        let pair = Pair {
-            direction,
-            first,
-            second,
-        };
-        assert_eq!(rt; held.joins_same_rooms(pair), joins);
-        assert_eq!(rt; is_same(held, pair), same);
+        let other = pair(direction, first, second);
+        assert_eq!(rt; held.joins_same_rooms(other), joins);
+        assert_eq!(rt; is_same(held, other), same);
     }
 }

@@ -43,7 +43,7 @@ fn room_in_range(word: u32) -> bool
     (1..=255).contains(&(word % (1 << 28)))
 }
 
-// What words say to a table with the rooms that it has.
+// What a word says, judged by the rooms that the table has.
 impl Table {
     fn is_held(&self, room: u8) -> bool
         ensures { result ≡ held self.now.rooms room }

@@ -12,7 +12,7 @@ use crate::lengths::Millimetres;
 use fault::Fault;
 
 impl FlatBook {
-    // A book of this width and depth, each 1 to 60,000 mm, or out of range.
+    // A book of this width and depth, each 1 to 60,000 mm, or out of range. A constructor of two named figures, as of a partition length: `TryFrom` of a pair is no plainer.
     pub fn new(width: u32, depth: u32) -> Result<FlatBook, Fault>
         ensures { FlatMade width depth result }
     {

@@ -8,7 +8,7 @@ use crate::book::{Book, Size};
 use crate::books::PartitionBook;
 use crate::lengths::{Millimetres, PartitionLength};
 
-// The same length with a partition on top.
+// The same length with a partition on top. No `From`, since it asks that the length is at most 60,000, and it is no plainer.
 fn with_partition(length: Millimetres) -> PartitionLength
     requires { length.figure ≤ 60000 }
     ensures { result ≡ partitioned length }

@@ -109,6 +109,7 @@ impl Measure for PartitionLength {
         PartitionLength::new(clear, partitions).ok()
     }
 
+    // In 32 bits, where the distance of a value fits; `distance` is for any figures. One function for both would convert at each call, and is no plainer.
     fn extent(self) -> u32 {
         THICKNESS * self.partitions + self.clear
     }

@@ -18,7 +18,7 @@ use crate::word::Entry;
 use fault::Fault;
 
 impl Board {
-    // A fresh board, with an empty sheet.
+    // A fresh board, with an empty sheet. A constructor, as of the table: its contract says what it makes, and a default would have to be written by hand too, which is no plainer.
     pub fn new() -> Board
         ensures { sheet_of result ≡ empty }
     {
