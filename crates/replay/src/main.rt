@@ -12,7 +12,7 @@ fn main(rt: HostRuntime) -> io::Result<()> {
     let mut session = Session::new();
     let mut bytes = vec![in rt.alloc(); 0u8; CHUNK]?;
     let mut out = String::new(rt.alloc());
-    // A counted loop: a rule of the project allows no wait without end, and no other form of a loop over input is proved to end.
+    // A counted loop, so that it is proved to end. The library's own loops over input are no plainer here: one gives whole lines, and a rule of the project keeps memory from growing with a line, and one gives single bytes, each a result to be taken apart.
     for _ in 0..u64::MAX {
         let count = rt.stdin().read(&mut bytes)?;
         if count == 0 {

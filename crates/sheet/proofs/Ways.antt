@@ -1,11 +1,11 @@
 -- Each way through a call answers as judged: the tests that led there decide the row of refusals, and the table has what an accepted call makes.
-use Rattle.std.proofs.Common.{◌≡◌, ℕ, ◌<◌, Bool, true, false, List, length, Some, None, Option, Ok, Err, sym, ap, ◌∙◌, arith}
-use Rattle.std.specs.List.{list_any, position}
+use Rattle.std.proofs.Common.{◌≡◌, ℕ, ◌<◌, true, false, List, length, Some, None, Ok, Err, sym, ap, ◌∙◌, arith}
+use Rattle.std.specs.List.{position}
 use Rattle.fault.specs.declared.Fault.{Fault}
 use Rattle.fault.specs.declared.Fault.TheVariants.{AlreadyJoined, Full, NotHeld, SameRoom}
 use Rattle.sheet.specs.Boards.{sheet_of}
 use Rattle.sheet.specs.Reads.{PairRead, PairUnread, Read, Unread}
-use Rattle.sheet.specs.Sheets.{joined, same_pair, same_rooms, with_pair, with_room, without_pair}
+use Rattle.sheet.specs.Sheets.{joined, same_pair, with_pair, with_room, without_pair}
 use Rattle.sheet.specs.Tables.{sheet_in}
 use Rattle.sheet.specs.declared.board.Board.{Board}
 use Rattle.sheet.specs.declared.edit.Edit.TheVariants.{Enter, Strike}
@@ -17,12 +17,8 @@ use Rattle.sheet.proofs.Replies as replies
 use Rattle.sheet.proofs.Replies.{Answers, accept, refuse}
 
 -- what a search of the held pairs finds, it finds in the sheet
-module _ (b : Board) (p : Pair) (held : List Pair) (h : held ≡ (sheet_of b).pairs) where
-  pub joined_as_found : (r : Bool) → r ≡ list_any (same_rooms p) held → joined (sheet_of b) p ≡ r
-  joined_as_found r e = ap (list_any (same_rooms p)) (sym h) ∙ sym e
-
-  pub place_as_found : (o : Option ℕ) → o ≡ position (same_pair p) held → position (same_pair p) (sheet_of b).pairs ≡ o
-  place_as_found o e = ap (position (same_pair p)) (sym h) ∙ sym e
+pub as_found : {X : Type 0} (b : Board) (search_in : List Pair → X) (held : List Pair) → held ≡ (sheet_of b).pairs → (r : X) → r ≡ search_in held → search_in (sheet_of b).pairs ≡ r
+as_found b search_in held h r e = ap search_in (sym h) ∙ sym e
 
 -- a word is read with as many rooms as the table counts, which are those of the sheet
 module _ (b : Board) (w : ℕ) where

@@ -30,6 +30,13 @@ impl Pair {
             || (self.first == other.second && self.second == other.first)
     }
 
+    // Whether both are the same mark of the same rooms: what `==` answers, in the words of the sheet.
+    pub fn is_same(self, other: Pair) -> bool
+        ensures { result ≡ same_pair self other }
+    {
+        self == other
+    }
+
     // Whether one of these pairs joins the same two rooms.
     pub(crate) fn is_joined_among(self, held: &[Pair]) -> bool
         ensures { result ≡ list_any (same_rooms self) held.now }
@@ -41,7 +48,7 @@ impl Pair {
     pub(crate) fn place_among(self, held: &[Pair]) -> Option<usize>
         ensures { result ≡ position (same_pair self) held.now }
     {
-        held.iter().position(|other| self == *other)
+        held.iter().position(|other| self.is_same(*other))
     }
 
     // The word that enters this pair, and strikes it: it says this pair and no other. A method: `u32::from(pair)` would not say that the number is a word, and is no plainer.

@@ -1,7 +1,4 @@
 // What a board takes and refuses, at the edges.
-ghost use Rattle.std.specs.Prelude.{◌≡◌};
-ghost use Rattle.sheet.specs.Sheets.{same_pair};
-
 use crate::board::Board;
 use crate::edit::Edit;
 use crate::pair::{Direction, Pair};
@@ -282,13 +279,6 @@ fn pairs_have_words(rt: HostRuntime) -> Result<(), Fail> {
     Ok(())
 }
 
-// Pairs compare by their fields, as the definitions say it.
-fn is_same(a: Pair, b: Pair) -> bool
-    ensures { result ≡ same_pair a b }
-{
-    a == b
-}
-
 #[test]
 fn pairs_are_told_apart(rt: HostRuntime) {
     let held = pair(Direction::Beside, 1, 2);
@@ -305,6 +295,6 @@ fn pairs_are_told_apart(rt: HostRuntime) {
     for (direction, first, second, joins, same) in rows {
         let other = pair(direction, first, second);
         assert_eq!(rt; held.joins_same_rooms(other), joins);
-        assert_eq!(rt; is_same(held, other), same);
+        assert_eq!(rt; held.is_same(other), same);
     }
 }
