@@ -1,19 +1,19 @@
 -- A call leaves a board with its invariant: the sheet after it is sound and made by one call more.
-use Rattle.std.proofs.Common.{◌≡◌, ℕ, ◌+◌, ◌<◌, ◌≤◌, true, length, get_or, Some, sym, ap, ◌∙◌, subst, arith}
+use Rattle.std.proofs.Common.{◌≡◌, ℕ, ◌+◌, ◌≤◌, length, sym, ap, ◌∙◌, subst, arith}
 use mathlib.Core.Logic.{∥∥₁_elim}
-use Rattle.std.specs.List.{position, remove}
+use Rattle.std.specs.List.{remove}
 use Rattle.std.proofs.lemmas.List.{length_push}
 use Rattle.std.proofs.lemmas.List.Edits.{length-remove}
-use Rattle.std.proofs.lemmas.List.Quantifiers.{position-Some}
 use Rattle.sheet.specs.Boards.{sheet_of}
 use Rattle.sheet.specs.Calls.{Call, after}
-use Rattle.sheet.specs.Sheets.{Sheet, same_pair, with_pair, with_room, without_pair}
+use Rattle.sheet.specs.Sheets.{Sheet, with_pair, with_room, without_pair}
 use Rattle.sheet.specs.Sound.{Sound}
 use Rattle.sheet.specs.Tables.{sheet_in, with_pairs}
 use Rattle.sheet.specs.declared.board.Board.{Board}
 use Rattle.sheet.specs.declared.pair.Pair.{Pair}
 use Rattle.sheet.specs.declared.table.Table.{Table}
 use Rattle.sheet.proofs.Pairs.{removed_is_kept}
+use Rattle.sheet.proofs.Places.{Place}
 use Rattle.sheet.proofs.Props.{sound_prop}
 use Rattle.sheet.proofs.Rules.{Made, made_more, sound_after}
 
@@ -60,15 +60,12 @@ module _ (b : Board) (t : Table) where
     ap (λ (s : Sheet). length s.pairs) e ∙ length_push (sheet_of b).pairs p ∙ ap (λ (x : ℕ). x + 1) b.marks ∙ sym m,
   )
 
-  module _ (p : Pair) (k : ℕ) (h : position (same_pair p) (sheet_of b).pairs ≡ Some k) (e : sheet_in t ≡ with_pairs (sheet_of b) (remove (sheet_of b).pairs k)) where
-    at : (k < length (sheet_of b).pairs) × (same_pair p (get_or (sheet_of b).pairs k p) ≡ true)
-    at = let place = position-Some (same_pair p) (sheet_of b).pairs k p h in (place.0, place.1)
-
+  module _ (p : Pair) (k : ℕ) (h : Place (sheet_of b).pairs p k) (e : sheet_in t ≡ with_pairs (sheet_of b) (remove (sheet_of b).pairs k)) where
     pub struck : sheet_in t ≡ without_pair (sheet_of b) p
-    struck = e ∙ ap (with_pairs (sheet_of b)) (removed_is_kept p (sheet_of b).pairs k (sound b).apart at.0 at.1)
+    struck = e ∙ ap (with_pairs (sheet_of b)) (removed_is_kept p (sheet_of b).pairs k (sound b).apart h.within h.here)
 
     pub struck_counts : t.rooms ≡ b.table.rooms → t.marks + 1 ≡ b.table.marks → (length (sheet_in t).uses ≡ t.rooms) × (length (sheet_in t).pairs ≡ t.marks)
     struck_counts r m =
-        let n = length-remove (sheet_of b).pairs k at.0 in
+        let n = length-remove (sheet_of b).pairs k h.within in
         let c : length (sheet_in t).pairs ≡ length (remove (sheet_of b).pairs k) = ap (λ (s : Sheet). length s.pairs) e in
         (ap (λ (s : Sheet). length s.uses) e ∙ b.rooms ∙ sym r, omega (arith, b.marks))

@@ -1,18 +1,18 @@
 -- Each way through a call answers as judged: the tests that led there decide the row of refusals, and the table has what an accepted call makes.
-use Rattle.std.proofs.Common.{◌≡◌, ℕ, ◌<◌, true, false, List, length, Some, None, Ok, Err, sym, ap, ◌∙◌, arith}
-use Rattle.std.specs.List.{position}
+use Rattle.std.proofs.Common.{◌≡◌, ℕ, ◌<◌, true, false, List, length, Ok, Err, sym, ap, ◌∙◌, arith}
+use Rattle.std.proofs.lemmas.List.Folds.{list_any_at}
 use Rattle.fault.specs.declared.Fault.{Fault}
 use Rattle.fault.specs.declared.Fault.TheVariants.{AlreadyJoined, Full, NotHeld, SameRoom}
 use Rattle.sheet.specs.Boards.{sheet_of}
 use Rattle.sheet.specs.Reads.{PairRead, PairUnread, Read, Unread}
-use Rattle.sheet.specs.Sheets.{joined, same_pair, with_pair, with_room, without_pair}
+use Rattle.sheet.specs.Sheets.{holds, joined, same_pair, with_pair, with_room, without_pair}
 use Rattle.sheet.specs.Tables.{sheet_in}
 use Rattle.sheet.specs.declared.board.Board.{Board}
 use Rattle.sheet.specs.declared.edit.Edit.TheVariants.{Enter, Strike}
 use Rattle.sheet.specs.declared.pair.Pair.{Pair}
 use Rattle.sheet.specs.declared.table.Table.{Table}
 use Rattle.sheet.specs.declared.word.Entry.TheVariants.{Room, Touch}
-use Rattle.sheet.proofs.Places.{passes_nowhere, passes_somewhere}
+use Rattle.sheet.proofs.Places.{Place}
 use Rattle.sheet.proofs.Replies as replies
 use Rattle.sheet.proofs.Replies.{Answers, accept, refuse}
 
@@ -62,10 +62,10 @@ module _ (b : Board) (w : ℕ) where
     pair_read : PairRead (length (sheet_of b).uses) w p
     pair_read = rw b.rooms h
 
-    pub pair_missing : position (same_pair p) (sheet_of b).pairs ≡ None → Answers (sheet_of b) (Strike w) (Err NotHeld) (sheet_of b)
-    pair_missing e = refuse (sheet_of b) (Strike w) NotHeld (replies.strike_missing (sheet_of b) w p pair_read (passes_nowhere (same_pair p) (sheet_of b).pairs e))
+    pub pair_missing : holds (sheet_of b) p ≡ false → Answers (sheet_of b) (Strike w) (Err NotHeld) (sheet_of b)
+    pair_missing e = refuse (sheet_of b) (Strike w) NotHeld (replies.strike_missing (sheet_of b) w p pair_read e)
 
-    pub pair_struck : (t : Table) (k : ℕ) → position (same_pair p) (sheet_of b).pairs ≡ Some k → sheet_in t ≡ without_pair (sheet_of b) p → Answers (sheet_of b) (Strike w) (Ok tt) (sheet_in t)
+    pub pair_struck : (t : Table) (k : ℕ) → Place (sheet_of b).pairs p k → sheet_in t ≡ without_pair (sheet_of b) p → Answers (sheet_of b) (Strike w) (Ok tt) (sheet_in t)
     pair_struck t k at e =
-        let here = passes_somewhere (same_pair p) (sheet_of b).pairs k p at in
+        let here = list_any_at (same_pair p) (sheet_of b).pairs k p at.within at.here in
         accept (sheet_of b) (Strike w) (sheet_in t) (replies.strike_taken (sheet_of b) w p pair_read here) (e ∙ replies.strike_done (sheet_of b) w p pair_read)

@@ -3,15 +3,27 @@ ghost use Rattle.std.specs.Prelude.{◌≡◌};
 ghost use Rattle.std.specs.List.{list_any, position};
 ghost use Rattle.sheet.specs.Sheets.{same_pair, same_rooms};
 ghost use Rattle.sheet.specs.Laws.{SaysPair};
-ghost use Rattle.sheet.specs.Words.{word_of};
+ghost use Rattle.sheet.specs.Words.{kind_of, word_of};
 
-// Which room lies where. The number is the kind of the words that say such a pair.
+// Which room lies where.
 #[derive(Clone, Copy, PartialEq, Eq, Debug)]
 pub enum Direction {
     // the first room lies west of the second
-    Beside = 2,
+    Beside,
     // the first room lies north of the second
-    Above = 3,
+    Above,
+}
+
+impl Direction {
+    // The kind of the words that say such a pair. No discriminant, since a cast of a direction gives 0 and 1.
+    fn kind(self) -> u8
+        ensures { result ≡ kind_of self }
+    {
+        match self {
+            Direction::Beside => 2,
+            Direction::Above => 3,
+        }
+    }
 }
 
 #[derive(Clone, Copy, PartialEq, Eq, Debug)]
@@ -56,6 +68,6 @@ impl Pair {
         ensures value { result ≡ word_of self }
         ensures says { SaysPair result self }
     {
-        u32::from_be_bytes([(self.direction as u8) << 4, 0, self.first, self.second])
+        u32::from_be_bytes([self.direction.kind() << 4, 0, self.first, self.second])
     }
 }

@@ -276,6 +276,7 @@ fn pairs_have_words(rt: HostRuntime) -> Result<(), Fail> {
     assert_eq!(rt; [board.pair(0), board.pair(1)], [Some(beside), Some(above)]);
     assert_eq!(rt; [beside.word(), above.word()], [0x2000_0102, 0x3000_0301]);
     assert_eq!(rt; pair(Direction::Above, 255, 0).word(), 0x3000_ff00);
+    assert_eq!(rt; [beside.direction as u8, above.direction as u8], [0, 1]);
     Ok(())
 }
 
