@@ -17,7 +17,7 @@ mod tests;
 pub const GREATEST_EXTENT: u32 = 1 << 30;
 
 // A measure: values that mean elements of a model. The model has more elements than there are values.
-pub trait Measure: Copy + Ord {
+pub trait Measure: Copy {
     // No step's extent passes this.
     const GREATEST_STEP: u32;
 
@@ -36,12 +36,9 @@ pub trait Measure: Copy + Ord {
     fn add(self, other: Self) -> Option<Self>
         ensures { Added model means self other result };
 
-    // Whether this is below, equal to or above the other.
-    final fn compare(self, other: Self) -> Ordering
-        ensures { Compared model means self other result }
-    {
-        self.cmp(&other)
-    }
+    // Whether this is below, equal to or above the other. Each measure writes it: one body for all would ask `Ord` of every measure.
+    fn compare(self, other: Self) -> Ordering
+        ensures { Compared model means self other result };
 
     fn extent(self) -> u32
         ensures { result ≡ model.extent (means self) };
@@ -52,7 +49,10 @@ pub trait Measure: Copy + Ord {
     ghost bounded: { (x : Self) → model.extent (means x) ≤ 2 ^ 30 };
 
     ghost moderate: { GREATEST_STEP ≤ 1000000 };
+}
 
-    // the order of values is the model's
-    ghost ordered: { (x y : Self) → Compared model means x y (Self.Ord.cmp x y) };
+// A measure whose values have an order of their own, by `Ord`, which is the model's. Not every measure has one: values of one element may differ, and `==` may tell them apart.
+pub trait OrderedMeasure: Measure + Ord {
+    // What each `impl` must prove.
+    ghost ordered: { (x y : Self) → Compared Self.Measure.model Self.Measure.means x y (Self.Ord.cmp x y) };
 }

@@ -1,15 +1,18 @@
 // Lengths and books at the edges.
 ghost use Rattle.std.specs.Prelude.{◌≡◌};
+ghost use Rattle.measure.specs.Replies.{Compared};
 
-use crate::Measure;
 use crate::book::{Book, Size};
 use crate::books::{FlatBook, HouseBook, PartitionBook};
 use crate::lengths::{Millimetres, PartitionLength};
+use crate::{Measure, OrderedMeasure};
 use fault::Fault;
 use std::cmp::Ordering;
 use std::fmt::Debug;
 use std::process::Abort;
 use std::test::Fail;
+
+mod marked;
 
 const TOP: u32 = 1_073_741_824;
 
@@ -98,7 +101,7 @@ fn zero_changes_nothing(rt: HostRuntime) -> Result<(), Fail> {
 }
 
 // `zero` is the zero of its measure, and adding it to `x` at either end gives `x`.
-fn is_neutral<M: Measure + Debug>(rt: &impl Abort, zero: M, x: M) {
+fn is_neutral<M: Measure + PartialEq + Debug>(rt: &impl Abort, zero: M, x: M) {
     assert_eq!(rt; M::zero(), zero);
     assert_eq!(rt; zero.add(x), Some(x));
     assert_eq!(rt; x.add(zero), Some(x));
@@ -110,6 +113,7 @@ fn more_partitions_are_the_lesser_at_equal_distance(rt: HostRuntime) -> Result<(
     assert_eq!(rt; mm(4)?.compare(mm(4)?), Ordering::Equal);
     assert_eq!(rt; mm(5)?.compare(mm(4)?), Ordering::Greater);
     assert!(rt; mm(3)? < mm(4)?);
+    assert_eq!(rt; order(mm(3)?, mm(4)?), Ordering::Less);
     // from the least to the greatest
     let rising = [
         (0, 0),
@@ -133,10 +137,18 @@ fn rises(rt: &impl Abort, rising: &[(u32, u32)]) -> Result<(), Fail> {
     for (i, a) in rising.iter().enumerate() {
         for (j, b) in rising.iter().enumerate() {
             assert_eq!(rt; crossing(*a)?.compare(crossing(*b)?), i.cmp(&j));
+            assert_eq!(rt; order(crossing(*a)?, crossing(*b)?), i.cmp(&j));
             assert_eq!(rt; crossing(*a)? < crossing(*b)?, i < j);
         }
     }
     Ok(())
+}
+
+// The order of two values, as code that is generic in the measure finds it.
+fn order<M: OrderedMeasure>(a: M, b: M) -> Ordering
+    ensures { Compared M.Measure.model M.Measure.means a b result }
+{
+    a.cmp(&b)
 }
 
 // The greatest step, as code that is generic in the measure reads it.

@@ -8,8 +8,9 @@ ghost use Rattle.std.specs.Prelude.{Some};
 ghost use Rattle.std.proofs.Common.{lit≤};
 
 use crate::lengths::Millimetres;
-use crate::{GREATEST_EXTENT, Measure};
+use crate::{GREATEST_EXTENT, Measure, OrderedMeasure};
 use fault::Fault;
+use std::cmp::Ordering;
 use std::fmt;
 
 impl Millimetres {
@@ -39,8 +40,6 @@ impl Measure for Millimetres {
 
     ghost moderate = { lit≤ tt };
 
-    ghost ordered = { millimetres_ordered };
-
     fn zero() -> Millimetres {
         Millimetres { figure: 0 }
     }
@@ -49,9 +48,17 @@ impl Measure for Millimetres {
         Millimetres::new(self.figure + other.figure).ok()
     }
 
+    fn compare(self, other: Millimetres) -> Ordering {
+        self.cmp(&other)
+    }
+
     fn extent(self) -> u32 {
         self.figure
     }
+}
+
+impl OrderedMeasure for Millimetres {
+    ghost ordered = { millimetres_ordered };
 }
 
 impl fmt::Display for Millimetres {
